@@ -1,0 +1,2 @@
+-- What the constructor of a flow makes.
+pub mod Made

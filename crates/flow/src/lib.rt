@@ -1,0 +1,71 @@
+// The flow's own kind: its limits, which all code reads from here, and the sizes of one flow within them.
+ghost use mathlib.Core.Path.{_≡_};
+ghost use Prim.Native.Nat.{_+_, _*_, _≤_, _<_};
+ghost use Rattle.layout.specs.Block.{blocksFor, rowsIn};
+ghost use Rattle.flow.specs.Made.{madeOf};
+
+// The sizes of a flow: numbers of tasks, workers and cells.
+pub struct Flow {
+    pub tasks: u32,
+    pub workers: u32,
+    pub cells: u32,
+}
+
+// What the constructor answers.
+pub enum Made {
+    Within(Flow),
+    Outside,
+}
+
+impl Flow {
+    pub const MAX_TASKS: u32 = 200;
+
+    pub const MAX_WORKERS: u32 = 8;
+
+    pub const MAX_CELLS: u32 = 32;
+
+    pub const MAX_ACCESSES: u8 = 4;
+
+    pub const MAX_OPERATIONS: u8 = 6;
+
+    // A flow of these sizes, refused where one of them is outside the limits.
+    pub fn new(tasks: u32, workers: u32, cells: u32) -> Made
+        ensures { λ r. ⌜ r ≡ madeOf tasks workers cells ⌝ }
+    {
+        if ((1 <= tasks) & (tasks <= Flow::MAX_TASKS))
+            & ((1 <= workers) & (workers <= Flow::MAX_WORKERS))
+            & ((1 <= cells) & (cells <= Flow::MAX_CELLS))
+        {
+            Made::Within(Flow {
+                tasks,
+                workers,
+                cells,
+            })
+        } else {
+            Made::Outside
+        }
+    }
+}
+
+// The fewest blocks for so many tasks.
+pub fn blocks_for(tasks: u32) -> u32
+    requires { ⌜ tasks ≤ 200 ⌝ }
+    ensures { λ r. ⌜ r ≡ blocksFor tasks ⌝ }
+{
+    (tasks + 9) / 10
+}
+
+// The rows in one block of a flow of so many tasks.
+pub fn rows_in(tasks: u32, index: u32) -> u32
+    requires { ⌜ index < 65536 ⌝ }
+    ensures { λ r. ⌜ r ≡ rowsIn tasks index ⌝ }
+{
+    let before = 10 * index;
+    if tasks <= before {
+        return 0;
+    }
+    if tasks - before < 10 {
+        return tasks - before;
+    }
+    10
+}

@@ -1,0 +1,89 @@
+-- Laws of `each` and `all`: what stands where, one member more, and what a test of all tells of one.
+use mathlib.Core.Path.{_≡_, refl, sym, ap, _∙_}
+use mathlib.Core.Bool.{Bool, true, false, _&&_, false≢true}
+use mathlib.Core.List.{List, [], _∷_, _++_}
+use Prim.Native.Nat.{ℕ, zero, suc, _+_, _<_}
+use native.Mathlib.Nat.{not-suc-le-zero, le-of-suc-le-suc}
+use native.Mathlib.Numerals.{add-one}
+use lib.ListN.{length, getD}
+use Rattle.layout.specs.Lists.{each, all}
+
+-- ---- both of two tests
+
+pub and-false : (x : Bool) → (x && false) ≡ false
+and-false true = refl
+and-false false = refl
+
+pub and-assoc : (x y z : Bool) → (x && y && z) ≡ (x && (y && z))
+and-assoc true y z = refl
+and-assoc false y z = refl
+
+pub and-left : (x y : Bool) → (x && y) ≡ true → x ≡ true
+and-left true y h = refl
+and-left false y h = absurd (false≢true h)
+
+pub and-right : (x y : Bool) → (x && y) ≡ true → y ≡ true
+and-right true y h = h
+and-right false y h = absurd (false≢true h)
+
+pub and-both : (x y : Bool) → x ≡ true → y ≡ true → (x && y) ≡ true
+and-both true y p q = q
+and-both false y p q = p
+
+module _ {A : Type 0} where
+  -- ---- where each member stands
+
+  pub each-length : (n : ℕ) (f : ℕ → A) → length (each n f) ≡ n
+  unfolding each
+  each-length zero f = refl
+  each-length (suc n) f = ap suc (each-length n (λ i. f (suc i)))
+
+  pub each-at : (n : ℕ) (f : ℕ → A) (i : ℕ) (d : A) → i < n → getD (each n f) i d ≡ f i
+  unfolding each
+  each-at zero f i d h = absurd (not-suc-le-zero h)
+  each-at (suc n) f zero d h = refl
+  each-at (suc n) f (suc i) d h = each-at n (λ j. f (suc j)) i d (le-of-suc-le-suc h)
+
+  each-suc : (n : ℕ) (f : ℕ → A) → each (suc n) f ≡ each n f ++ (f n ∷ [])
+  unfolding each
+  each-suc zero f = refl
+  each-suc (suc n) f = ap (λ (t : List A). f 0 ∷ t) (each-suc n (λ i. f (suc i)))
+
+  -- one member more, at the end
+  pub each-more : (n : ℕ) (f : ℕ → A) → each (n + 1) f ≡ each n f ++ (f n ∷ [])
+  each-more n f = ap (λ (k : ℕ). each k f) (add-one n) ∙ each-suc n f
+
+  -- members that are the same one by one
+  pub each-same : (n : ℕ) (f g : ℕ → A) → ((i : ℕ) → i < n → f i ≡ g i) → each n f ≡ each n g
+  unfolding each
+  each-same zero f g h = refl
+  each-same (suc n) f g h =
+      ap (λ (x : A). x ∷ each n (λ i. f (suc i))) (h 0 (Prim.Native.Nat.suc-le-suc Prim.Native.Nat.zero-le))
+      ∙ ap (λ (t : List A). g 0 ∷ t) (each-same n (λ i. f (suc i)) (λ i. g (suc i)) (λ i l. h (suc i) (Prim.Native.Nat.suc-le-suc l)))
+
+  -- ---- a test of all
+
+  pub all-append : (p : A → Bool) (xs ys : List A) → all p (xs ++ ys) ≡ (all p xs && all p ys)
+  unfolding all
+  all-append p [] ys = refl
+  all-append p (x ∷ xs) ys = ap (λ (t : Bool). p x && t) (all-append p xs ys) ∙ sym (and-assoc (p x) (all p xs) (all p ys))
+
+  pub all-more : (p : A → Bool) (n : ℕ) (f : ℕ → A) → all p (each n f) ≡ true → p (f n) ≡ true → all p (each (n + 1) f) ≡ true
+  unfolding all
+  all-more p n f before here =
+      ap (all p) (each-more n f) ∙ all-append p (each n f) (f n ∷ [])
+      ∙ and-both (all p (each n f)) (p (f n) && true) before (and-both (p (f n)) true here refl)
+
+  pub all-keeps : (p : A → Bool) (n : ℕ) (f : ℕ → A) (i : ℕ) → i < n → all p (each n f) ≡ true → p (f i) ≡ true
+  unfolding each all
+  all-keeps p zero f i h t = absurd (not-suc-le-zero h)
+  all-keeps p (suc n) f zero h t = and-left (p (f 0)) (all p (each n (λ j. f (suc j)))) t
+  all-keeps p (suc n) f (suc i) h t =
+      all-keeps p n (λ j. f (suc j)) i (le-of-suc-le-suc h) (and-right (p (f 0)) (all p (each n (λ j. f (suc j)))) t)
+
+  pub all-breaks : (p : A → Bool) (n : ℕ) (f : ℕ → A) (i : ℕ) → i < n → p (f i) ≡ false → all p (each n f) ≡ false
+  unfolding each all
+  all-breaks p zero f i h t = absurd (not-suc-le-zero h)
+  all-breaks p (suc n) f zero h t = ap (λ (x : Bool). x && all p (each n (λ j. f (suc j)))) t
+  all-breaks p (suc n) f (suc i) h t =
+      ap (λ (x : Bool). p (f 0) && x) (all-breaks p n (λ j. f (suc j)) i (le-of-suc-le-suc h) t) ∙ and-false (p (f 0))

@@ -1,0 +1,21 @@
+-- Fletcher's check with modulus 255 (01, "The file"), over any list of bytes.
+use mathlib.Core.List.{List, [], _∷_}
+use Prim.Native.Nat.{ℕ, _+_, _%_}
+
+-- the two sums
+pub record Sums : Type 0 where
+  pub a : ℕ
+  pub b : ℕ
+
+-- "A becomes (A + byte) mod 255, then B becomes (B + A) mod 255"
+abbrev pub added : Sums → ℕ → Sums
+added sums byte = record { a = (sums .a + byte) % 255; b = (sums .b + (sums .a + byte) % 255) % 255 }
+
+-- the sums after further bytes
+unfoldable pub after : Sums → List ℕ → Sums
+after sums [] = sums
+after sums (byte ∷ bytes) = after (added sums byte) bytes
+
+-- "A and B start at 0"
+abbrev pub fletcher : List ℕ → Sums
+fletcher bytes = after (record { a = 0; b = 0 }) bytes

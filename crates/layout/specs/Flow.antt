@@ -1,0 +1,52 @@
+-- A flow as a value (01, "What is built"), on which the runs and their theorems are stated, and its limits.
+use mathlib.Core.Bool.{Bool, _&&_}
+use mathlib.Core.List.{List}
+use Prim.Native.Nat.{ℕ}
+use lib.Dec.{leb}
+
+-- a cell that a task names, and the mode under which it does: 1 read, 2 write only, 3 read and write
+pub record Access : Type 0 where
+  pub cell : ℕ
+  pub mode : ℕ
+
+-- an operation's code, the cell a that it writes, the cell b, and the constant k
+pub record Operation : Type 0 where
+  pub code : ℕ
+  pub a : ℕ
+  pub b : ℕ
+  pub k : ℕ
+
+-- "A task has an owner, 1 to 4 accesses and 0 to 6 operations"
+pub record Task : Type 0 where
+  pub owner : ℕ
+  pub accesses : List Access
+  pub operations : List Operation
+
+-- the tasks in list order: task 1 is the first
+pub record Flow : Type 0 where
+  pub workers : ℕ
+  pub cells : ℕ
+  pub tasks : List Task
+
+abbrev pub mostTasks : ℕ
+mostTasks = 200
+
+abbrev pub mostWorkers : ℕ
+mostWorkers = 8
+
+abbrev pub mostCells : ℕ
+mostCells = 32
+
+abbrev pub mostAccesses : ℕ
+mostAccesses = 4
+
+abbrev pub mostOperations : ℕ
+mostOperations = 6
+
+-- a number is at least 1 and at most the limit
+abbrev pub upTo : ℕ → ℕ → Bool
+upTo limit n = leb 1 n && leb n limit
+
+-- "A flow has 1 to 200 tasks, 1 to 8 workers and 1 to 32 cells"
+abbrev pub inRange : ℕ → ℕ → ℕ → Bool
+inRange tasks workers cells = upTo mostTasks tasks && upTo mostWorkers workers && upTo mostCells cells

@@ -1,0 +1,10 @@
+-- The rules of 01 for the file. Each module opens with what it defines and with the part of 01 that it stands for.
+pub mod Lists
+pub mod Bytes
+pub mod Refusal
+pub mod Flow
+pub mod Fletcher
+pub mod Row
+pub mod Block
+pub mod File
+pub mod Write

@@ -1,0 +1,68 @@
+-- `octets::all_zero` meets its contract. The invariant: the sum is zero exactly where the bytes passed all are.
+use mathlib.Core.Path.{_≡_, _∙_, ap}
+use mathlib.Core.Bool.{Bool, _&&_}
+use Prim.Native.Nat.{_≤_, _-_, _*_}
+use native.Mathlib.Omega.{arith}
+use borrow.Author.Needs.{needs}
+use lib.ListN.{length, take}
+use lib.Dec.{eqb}
+use lib.Seq.{take-all}
+use Rattle.layout.specs.Bytes.{allZero}
+use Rattle.layout.proofs.Zeros.{sum-more}
+use Rattle.octets.proofs.all_zero.Statement.{statement}
+use Rattle.octets.proofs.all_zero.Tie as tie
+
+abbrev Inv-loop : tie.InvT-loop
+Inv-loop bytes sum₀ i₀ sum i = (i ≤ length bytes) × (sum ≤ 255 * i) × (eqb sum 0 ≡ allZero (take i bytes))
+
+abbrev μ-loop : tie.MeasureT-loop
+μ-loop bytes sum₀ i₀ sum i = length bytes - i
+
+-- src/lib.rt:57:5
+loop-holds : tie.Need-loop-holds Inv-loop μ-loop
+unfolding allZero
+loop-holds c = search needs
+
+-- src/lib.rt:58:21
+shared-slice-read-wide : tie.Need-shared-slice-read-wide Inv-loop μ-loop
+shared-slice-read-wide c = search needs
+
+-- src/lib.rt:58:16
+wide-requires : tie.Need-wide-requires Inv-loop μ-loop
+wide-requires c κs = search needs
+
+-- src/lib.rt:58:9
+add-sum : tie.Need-add-sum Inv-loop μ-loop
+add-sum c = search needs
+
+-- src/lib.rt:59:9
+add-i : tie.Need-add-i Inv-loop μ-loop
+add-i c = search needs
+
+-- src/lib.rt:57:5
+loop-less : tie.Need-loop-less Inv-loop μ-loop
+loop-less c = search needs
+
+-- src/lib.rt:57:5
+loop-again : tie.Need-loop-again Inv-loop μ-loop
+loop-again c =
+    (search needs, search needs, sum-more _ _ _ _ (c .before .before .loop-test .taken) (c .wide .ensures .0) (c .before .before .before .loop .inv .2))
+
+-- src/lib.rt:51:1
+returns : tie.Need-returns Inv-loop μ-loop
+returns c = c .before .loop .inv .2 ∙ ap allZero (take-all _ _ (c .loop-test .left))
+
+pub all-zero-spec : {M : Type 1} → statement M
+all-zero-spec =
+    tie.close
+    (tie.spec
+    Inv-loop
+    μ-loop
+    loop-holds
+    shared-slice-read-wide
+    wide-requires
+    add-sum
+    add-i
+    loop-less
+    loop-again
+    returns)

@@ -1,0 +1,58 @@
+-- `octets::clear` meets its contract. The invariant: the first i bytes are zero and the rest are as they were.
+use mathlib.Core.Path.{_≡_}
+use mathlib.Core.List.{_++_}
+use Prim.Native.Nat.{_≤_, _-_}
+use borrow.Author.Needs.{needs}
+use lib.ListN.{length, replicate, drop}
+use Rattle.layout.proofs.Zeros.{clear-more, cleared}
+use Rattle.octets.proofs.clear.Statement.{statement}
+use Rattle.octets.proofs.clear.Tie as tie
+
+abbrev Inv-loop : tie.InvT-loop
+Inv-loop bytes₀ i₀ bytes i = (i ≤ length bytes₀) × (length bytes ≡ length bytes₀) × (bytes ≡ replicate i 0 ++ drop i bytes₀)
+
+abbrev μ-loop : tie.MeasureT-loop
+μ-loop bytes₀ i₀ bytes i = length bytes₀ - i
+
+-- src/lib.rt:69:5
+loop-holds : tie.Need-loop-holds Inv-loop μ-loop
+loop-holds c = search needs
+
+-- src/lib.rt:70:9
+slice-write-bytes : tie.Need-slice-write-bytes Inv-loop μ-loop
+slice-write-bytes c = search needs
+
+-- src/lib.rt:71:9
+add-i : tie.Need-add-i Inv-loop μ-loop
+add-i c = search needs
+
+-- src/lib.rt:69:5
+loop-less : tie.Need-loop-less Inv-loop μ-loop
+loop-less c = search needs
+
+-- src/lib.rt:69:5
+loop-again : tie.Need-loop-again Inv-loop μ-loop
+loop-again c =
+    (search needs, search needs, clear-more _ _ _ (c .loop-test .taken) (c .before .loop .inv .1) (c .before .loop .inv .2))
+
+-- src/lib.rt:65:1
+same-length : tie.Need-same-length Inv-loop μ-loop
+same-length c = search needs
+
+-- src/lib.rt:65:1
+returns : tie.Need-returns Inv-loop μ-loop
+returns c = cleared _ _ _ (c .before .loop .inv .0) (search needs) (c .before .loop .inv .2)
+
+pub clear-spec : {M : Type 1} → statement M
+clear-spec =
+    tie.close
+    (tie.spec
+    Inv-loop
+    μ-loop
+    loop-holds
+    slice-write-bytes
+    add-i
+    loop-less
+    loop-again
+    same-length
+    returns)

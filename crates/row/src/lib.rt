@@ -1,0 +1,198 @@
+// The check of a row: refusals 6 to 11. The row is read where the caller keeps its 48 bytes.
+use flow::Flow;
+ghost use mathlib.Core.Path.{_≡_};
+ghost use mathlib.Core.Bool.{true};
+ghost use mathlib.Core.List.{List, []};
+ghost use Prim.Native.Nat.{ℕ, _+_, _*_, _≤_, _<_};
+ghost use lib.ListN.{length, getD, replicate};
+ghost use Rattle.layout.specs.Lists.{each, all};
+ghost use Rattle.layout.specs.Row.{accessAt, taskOf, ownerSound, countsSound, accessInRange, accessesSound, namedOnce, operationSound, operationsSound, modesSound, rowRefusal};
+ghost use Rattle.row.specs.Table.{Table, keepsTable};
+
+// 6: the owner is below workers.
+fn owner_sound(row: &[u8], workers: u32) -> bool
+    requires { ⌜ length (now row) ≡ 48 ⌝ }
+    ensures { λ r. ⌜ r ≡ ownerSound workers (now (row .entry)) ⌝ }
+{
+    octets::wide(row[0]) < workers
+}
+
+// 7: the numbers of accesses and operations, and byte 3.
+fn counts_sound(row: &[u8]) -> bool
+    requires { ⌜ length (now row) ≡ 48 ⌝ }
+    ensures { λ r. ⌜ r ≡ countsSound (now (row .entry)) ⌝ }
+{
+    let accesses = row[1];
+    let operations = row[2];
+    ((1 <= accesses) & (accesses <= Flow::MAX_ACCESSES))
+        & (operations <= Flow::MAX_OPERATIONS)
+        & (row[3] == 0)
+}
+
+// One used access: its cell and its mode are within range.
+fn access_in_range(row: &[u8], j: usize, cells: u32) -> bool
+    requires { ⌜ length (now row) ≡ 48 ⌝ }
+    requires { ⌜ j < 4 ⌝ }
+    ensures { λ r. ⌜ r ≡ accessInRange cells (accessAt (now (row .entry)) j) ⌝ }
+{
+    let cell = octets::wide(row[4 + 2 * j]);
+    let mode = row[5 + 2 * j];
+    (cell < cells) & ((1 <= mode) & (mode <= 3))
+}
+
+// All used accesses are within range.
+fn accesses_in_range(row: &[u8], count: usize, cells: u32) -> bool
+    requires { ⌜ length (now row) ≡ 48 ⌝ }
+    requires { ⌜ count ≤ 4 ⌝ }
+    ensures { λ r. ⌜ r ≡ all (accessInRange cells) (each count (accessAt (now (row .entry)))) ⌝ }
+{
+    let mut j = 0;
+    while j < count {
+        if !access_in_range(row, j, cells) {
+            return false;
+        }
+        j += 1;
+    }
+    true
+}
+
+// 8: the used accesses are within range, and the unused ones are zero.
+fn accesses_sound(row: &[u8], cells: u32) -> bool
+    requires { ⌜ length (now row) ≡ 48 ⌝ }
+    requires { ⌜ countsSound (now row) ≡ true ⌝ }
+    ensures { λ r. ⌜ r ≡ accessesSound cells (now (row .entry)) ⌝ }
+{
+    let count = octets::index(row[1]);
+    let from = 4 + 2 * count;
+    let used = accesses_in_range(row, count, cells);
+    let unused = octets::all_zero(&row[from..12]);
+    used & unused
+}
+
+// 9: no cell is named twice among the accesses. Each access, from the last to the first, goes into the table of modes.
+fn named_once(row: &[u8], modes: &mut [u8; 32]) -> bool
+    requires { ⌜ length (now row) ≡ 48 ⌝ }
+    requires { ⌜ countsSound (now row) ≡ true ⌝ }
+    requires { ⌜ all (accessInRange 32) (taskOf (now row) .accesses) ≡ true ⌝ }
+    requires { ⌜ now modes ≡ replicate 32 0 ⌝ }
+    ensures { λ r. ⌜ (r ≡ namedOnce (taskOf (now (row .entry)) .accesses)) × (r ≡ true → Table (taskOf (now (row .entry)) .accesses) [] (now (modes .exit))) ⌝ }
+{
+    let mut j = octets::index(row[1]);
+    while 0 < j {
+        j -= 1;
+        let cell = octets::index(row[4 + 2 * j]);
+        if modes[cell] != 0 {
+            return false;
+        }
+        modes[cell] = row[5 + 2 * j];
+    }
+    true
+}
+
+// One used operation: a known code, cells within range, and zero what must be.
+fn operation_sound(row: &[u8], i: usize, cells: u32) -> bool
+    requires { ⌜ length (now row) ≡ 48 ⌝ }
+    requires { ⌜ i < 6 ⌝ }
+    ensures { λ r. ⌜ r ≡ operationSound cells (now (row .entry)) i ⌝ }
+{
+    let code = row[12 + 6 * i];
+    let a = octets::wide(row[13 + 6 * i]);
+    let b = octets::wide(row[14 + 6 * i]);
+    let spare = row[15 + 6 * i];
+    let k = octets::word(row[16 + 6 * i], row[17 + 6 * i]);
+    let known = ((1 <= code) & (code <= 6)) & (a < cells) & (b < cells);
+    if code == 1 {
+        known & (b == 0) & (spare == 0)
+    } else {
+        known & (k == 0) & (spare == 0)
+    }
+}
+
+// All used operations are sound.
+fn used_sound(row: &[u8], count: usize, cells: u32) -> bool
+    requires { ⌜ length (now row) ≡ 48 ⌝ }
+    requires { ⌜ count ≤ 6 ⌝ }
+    ensures { λ r. ⌜ r ≡ all (operationSound cells (now (row .entry))) (each count (λ i. i)) ⌝ }
+{
+    let mut i = 0;
+    while i < count {
+        if !operation_sound(row, i, cells) {
+            return false;
+        }
+        i += 1;
+    }
+    true
+}
+
+// 10: the used operations are sound, and the unused ones are zero.
+fn operations_sound(row: &[u8], cells: u32) -> bool
+    requires { ⌜ length (now row) ≡ 48 ⌝ }
+    requires { ⌜ countsSound (now row) ≡ true ⌝ }
+    ensures { λ r. ⌜ r ≡ operationsSound cells (now (row .entry)) ⌝ }
+{
+    let count = octets::index(row[2]);
+    let from = 12 + 6 * count;
+    let used = used_sound(row, count, cells);
+    let unused = octets::all_zero(&row[from..48]);
+    used & unused
+}
+
+// One operation, by its code and by what the table has for its cells a and b, keeps to the modes.
+fn keeps_modes(code: u8, of_a: u8, of_b: u8) -> bool
+    ensures { λ r. ⌜ r ≡ keepsTable code «of_a» «of_b» ⌝ }
+{
+    let reads_a = (code == 3) | (code == 4) | (code == 6);
+    let reads_b = code != 1;
+    let may_write = (of_a == 2) | (of_a == 3);
+    may_write & (!reads_a | ((of_a == 1) | (of_a == 3))) & (!reads_b | ((of_b == 1) | (of_b == 3)))
+}
+
+// 11: every operation keeps to the modes. From then on the cell that it wrote may be read.
+fn all_keep_modes(row: &[u8], modes: &mut [u8; 32]) -> bool
+    requires { ⌜ length (now row) ≡ 48 ⌝ }
+    requires { ⌜ countsSound (now row) ≡ true ⌝ }
+    requires { ⌜ operationsSound 32 (now row) ≡ true ⌝ }
+    requires { ⌜ Table (taskOf (now row) .accesses) [] (now modes) ⌝ }
+    ensures { λ r. ⌜ r ≡ modesSound (taskOf (now (row .entry))) ⌝ }
+{
+    let count = octets::index(row[2]);
+    let mut i = 0;
+    while i < count {
+        let a = octets::index(row[13 + 6 * i]);
+        let b = octets::index(row[14 + 6 * i]);
+        if !keeps_modes(row[12 + 6 * i], modes[a], modes[b]) {
+            return false;
+        }
+        modes[a] = 3;
+        i += 1;
+    }
+    true
+}
+
+// The first of 6 to 11 that the row breaks; 0 where it breaks none.
+pub fn refusal(row: &[u8], workers: u32, cells: u32) -> u32
+    requires { ⌜ length (now row) ≡ 48 ⌝ }
+    requires { ⌜ cells ≤ 32 ⌝ }
+    ensures { λ r. ⌜ r ≡ rowRefusal workers cells (now (row .entry)) ⌝ }
+{
+    if !owner_sound(row, workers) {
+        return 6;
+    }
+    if !counts_sound(row) {
+        return 7;
+    }
+    if !accesses_sound(row, cells) {
+        return 8;
+    }
+    let mut modes = [0u8; 32];
+    if !named_once(row, &mut modes) {
+        return 9;
+    }
+    if !operations_sound(row, cells) {
+        return 10;
+    }
+    if !all_keep_modes(row, &mut modes) {
+        return 11;
+    }
+    0
+}
