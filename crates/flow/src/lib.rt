@@ -1,8 +1,9 @@
 // The flow's own kind: its limits, which all code reads from here, and the sizes of one flow within them.
 ghost use mathlib.Core.Path.{_≡_};
 ghost use Prim.Native.Nat.{_+_, _*_, _≤_, _<_};
+ghost use Rattle.layout.specs.Flow.{inRange};
 ghost use Rattle.layout.specs.Block.{blocksFor, rowsIn};
-ghost use Rattle.flow.specs.Made.{madeOf};
+ghost use Rattle.flow.specs.Made.{statedBy, askedFor};
 
 // The sizes of a flow: numbers of tasks, workers and cells.
 pub struct Flow {
@@ -30,7 +31,7 @@ impl Flow {
 
     // A flow of these sizes, refused where one of them is outside the limits.
     pub fn new(tasks: u32, workers: u32, cells: u32) -> Made
-        ensures { λ r. ⌜ r ≡ madeOf tasks workers cells ⌝ }
+        ensures { λ r. ⌜ statedBy r ≡ askedFor tasks workers cells ⌝ }
     {
         if ((1 <= tasks) & (tasks <= Flow::MAX_TASKS))
             & ((1 <= workers) & (workers <= Flow::MAX_WORKERS))
@@ -47,9 +48,19 @@ impl Flow {
     }
 }
 
+// Whether there can be a flow of these sizes.
+pub fn within(tasks: u32, workers: u32, cells: u32) -> bool
+    ensures { λ r. ⌜ r ≡ inRange tasks workers cells ⌝ }
+{
+    match Flow::new(tasks, workers, cells) {
+        Made::Within(_) => true,
+        Made::Outside => false,
+    }
+}
+
 // The fewest blocks for so many tasks.
 pub fn blocks_for(tasks: u32) -> u32
-    requires { ⌜ tasks ≤ 200 ⌝ }
+    requires { ⌜ tasks < 65536 ⌝ }
     ensures { λ r. ⌜ r ≡ blocksFor tasks ⌝ }
 {
     (tasks + 9) / 10

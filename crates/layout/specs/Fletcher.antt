@@ -7,15 +7,18 @@ pub record Sums : Type 0 where
   pub a : ℕ
   pub b : ℕ
 
+abbrev pub sums : ℕ → ℕ → Sums
+sums a b = record { a = a; b = b }
+
 -- "A becomes (A + byte) mod 255, then B becomes (B + A) mod 255"
 abbrev pub added : Sums → ℕ → Sums
-added sums byte = record { a = (sums .a + byte) % 255; b = (sums .b + (sums .a + byte) % 255) % 255 }
+added before byte = sums ((before .a + byte) % 255) ((before .b + (before .a + byte) % 255) % 255)
 
 -- the sums after further bytes
 unfoldable pub after : Sums → List ℕ → Sums
-after sums [] = sums
-after sums (byte ∷ bytes) = after (added sums byte) bytes
+after before [] = before
+after before (byte ∷ bytes) = after (added before byte) bytes
 
 -- "A and B start at 0"
 abbrev pub fletcher : List ℕ → Sums
-fletcher bytes = after (record { a = 0; b = 0 }) bytes
+fletcher bytes = after (sums 0 0) bytes

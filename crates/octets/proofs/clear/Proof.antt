@@ -14,32 +14,25 @@ Inv-loop bytes₀ i₀ bytes i = (i ≤ length bytes₀) × (length bytes ≡ le
 abbrev μ-loop : tie.MeasureT-loop
 μ-loop bytes₀ i₀ bytes i = length bytes₀ - i
 
--- src/lib.rt:69:5
 loop-holds : tie.Need-loop-holds Inv-loop μ-loop
 loop-holds c = search needs
 
--- src/lib.rt:70:9
 slice-write-bytes : tie.Need-slice-write-bytes Inv-loop μ-loop
 slice-write-bytes c = search needs
 
--- src/lib.rt:71:9
 add-i : tie.Need-add-i Inv-loop μ-loop
 add-i c = search needs
 
--- src/lib.rt:69:5
 loop-less : tie.Need-loop-less Inv-loop μ-loop
 loop-less c = search needs
 
--- src/lib.rt:69:5
 loop-again : tie.Need-loop-again Inv-loop μ-loop
 loop-again c =
     (search needs, search needs, clear-more _ _ _ (c .loop-test .taken) (c .before .loop .inv .1) (c .before .loop .inv .2))
 
--- src/lib.rt:65:1
 same-length : tie.Need-same-length Inv-loop μ-loop
 same-length c = search needs
 
--- src/lib.rt:65:1
 returns : tie.Need-returns Inv-loop μ-loop
 returns c = cleared _ _ _ (c .before .loop .inv .0) (search needs) (c .before .loop .inv .2)
 

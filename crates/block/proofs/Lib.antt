@@ -1,0 +1,2 @@
+-- Laws of lists that the filling of a block cites.
+pub mod Parts
