@@ -2,5 +2,6 @@
 pub mod Blocks
 pub mod Fletcher
 pub mod Lists
+pub mod Modes
 pub mod Refusals
 pub mod Zeros

@@ -1,42 +1,46 @@
+-- `row::accesses_in_range` meets its contract. The invariant: the accesses passed are within range.
+use mathlib.Core.Path.{_≡_, sym, _∙_}
+use mathlib.Core.Bool.{true}
+use Prim.Native.Nat.{_≤_, _-_}
+use borrow.Author.Needs.{needs}
+use borrow.Author.Tests.{not-true, not-false}
+use Rattle.layout.specs.Lists.{each, all}
+use Rattle.layout.specs.Row.{accessAt, accessInRange}
+use Rattle.layout.proofs.Lists.{all-more, all-breaks}
+use Rattle.layout.proofs.Modes.{all-whole}
 use Rattle.row.proofs.accesses_in_range.Statement.{statement}
 use Rattle.row.proofs.accesses_in_range.Tie as tie
-use Rattle.row.proofs.accesses_in_range.Reads as reads
-use Rattle.row.proofs.accesses_in_range.Lts as lts
-use Rattle.row.proofs.access_in_range.Reads as access-in-range-reads
 
 abbrev Inv-loop : tie.InvT-loop
-Inv-loop row count cells j₀ j = ?
+Inv-loop row count cells j₀ j = (j ≤ count) × (all (accessInRange cells) (each j (accessAt row)) ≡ true)
 
 abbrev μ-loop : tie.MeasureT-loop
-μ-loop row count cells j₀ j = ?
+μ-loop row count cells j₀ j = count - j
 
--- src/lib.rt:50:5
 loop-holds : tie.Need-loop-holds Inv-loop μ-loop
-loop-holds c = ?
+unfolding each all
+loop-holds c = search needs
 
--- src/lib.rt:51:13
 access-in-range-requires : tie.Need-access-in-range-requires Inv-loop μ-loop
-access-in-range-requires c κs = ?
+access-in-range-requires c κs = search needs
 
--- src/lib.rt:52:13
 returns : tie.Need-returns Inv-loop μ-loop
-returns c = ?
+returns c =
+    sym (all-breaks _ _ _ _ (c .before .before .loop-test .taken) (sym (c .before .access-in-range .ensures) ∙ not-true _ (c .if1 .taken)))
 
--- src/lib.rt:54:9
 add-j : tie.Need-add-j Inv-loop μ-loop
-add-j c = ?
+add-j c = search needs
 
--- src/lib.rt:50:5
 loop-less : tie.Need-loop-less Inv-loop μ-loop
-loop-less c = ?
+loop-less c = search needs
 
--- src/lib.rt:50:5
 loop-again : tie.Need-loop-again Inv-loop μ-loop
-loop-again c = ?
+loop-again c =
+    (search needs,
+    all-more _ _ _ (c .before .before .before .loop .inv .1) (sym (c .before .access-in-range .ensures) ∙ not-false _ (c .if1 .left)))
 
--- src/lib.rt:44:1
 returns-2 : tie.Need-returns-2 Inv-loop μ-loop
-returns-2 c = ?
+returns-2 c = sym (all-whole _ _ _ _ (c .before .loop .inv .0) (c .loop-test .left) (c .before .loop .inv .1))
 
 pub accesses-in-range-spec : {M : Type 1} → statement M
 accesses-in-range-spec =

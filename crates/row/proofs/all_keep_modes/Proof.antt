@@ -1,107 +1,106 @@
+-- `row::all_keep_modes` meets its contract. The invariant: what all operations keep to is what those from i on keep to, and the table has the modes after the ones before.
+use mathlib.Core.Path.{_≡_, sym, _∙_}
+use Prim.Native.Nat.{_≤_, _<_, _-_}
+use native.Mathlib.Omega.{arith}
+use borrow.Author.Needs.{needs}
+use borrow.Author.Tests.{not-true, not-false}
+use Rattle.layout.proofs.Modes.{counts-kept}
+use Rattle.row.proofs.Keeps.{Kept, Step, kept-none, step-cells, breaks, kept-next, kept-all}
 use Rattle.row.proofs.all_keep_modes.Statement.{statement}
 use Rattle.row.proofs.all_keep_modes.Tie as tie
-use Rattle.row.proofs.all_keep_modes.Reads as reads
-use Rattle.row.proofs.all_keep_modes.Lts as lts
-use Rattle.octets.proofs.index.Reads as index-reads
-use Rattle.row.proofs.keeps_modes.Reads as keeps-modes-reads
 
 abbrev Inv-loop : tie.InvT-loop
-Inv-loop row modes₀ count i₀ modes i = ?
+Inv-loop row modes₀ count i₀ modes i = (i ≤ count) × (count ≤ 6) × Kept row i modes
 
 abbrev μ-loop : tie.MeasureT-loop
-μ-loop row modes₀ count i₀ modes i = ?
+μ-loop row modes₀ count i₀ modes i = count - i
 
--- src/lib.rt:158:31
 shared-slice-read-index : tie.Need-shared-slice-read-index Inv-loop μ-loop
-shared-slice-read-index c = ?
+shared-slice-read-index c = search needs
 
--- src/lib.rt:158:9
 index-requires : tie.Need-index-requires Inv-loop μ-loop
-index-requires c κs = ?
+index-requires c κs = search needs
 
--- src/lib.rt:160:5
 loop-holds : tie.Need-loop-holds Inv-loop μ-loop
-loop-holds c = ?
+loop-holds c =
+    let start = c .before .before .before in
+    (search needs,
+    rw (c .index .ensures .0) (counts-kept (start .args .row .now) (start .pre .1 .0) .1),
+    kept-none (start .args .row .now) (start .args .modes .now) (start .pre .1 .1 .1))
 
--- src/lib.rt:161:40
 mul-index : tie.Need-mul-index Inv-loop μ-loop
-mul-index c = ?
+mul-index c = search needs
 
--- src/lib.rt:161:35
 add-index : tie.Need-add-index Inv-loop μ-loop
-add-index c = ?
+add-index c = search needs
 
--- src/lib.rt:161:31
 shared-slice-read-index-2 : tie.Need-shared-slice-read-index-2 Inv-loop μ-loop
-shared-slice-read-index-2 c = ?
+shared-slice-read-index-2 c = search needs
 
--- src/lib.rt:161:13
 index-requires-2 : tie.Need-index-requires-2 Inv-loop μ-loop
-index-requires-2 c κs = ?
+index-requires-2 c κs = search needs
 
--- src/lib.rt:162:40
 mul-index-2 : tie.Need-mul-index-2 Inv-loop μ-loop
-mul-index-2 c = ?
+mul-index-2 c = search needs
 
--- src/lib.rt:162:35
 add-index-2 : tie.Need-add-index-2 Inv-loop μ-loop
-add-index-2 c = ?
+add-index-2 c = search needs
 
--- src/lib.rt:162:31
 shared-slice-read-index-3 : tie.Need-shared-slice-read-index-3 Inv-loop μ-loop
-shared-slice-read-index-3 c = ?
+shared-slice-read-index-3 c = search needs
 
--- src/lib.rt:162:13
 index-requires-3 : tie.Need-index-requires-3 Inv-loop μ-loop
-index-requires-3 c κs = ?
+index-requires-3 c κs = search needs
 
--- src/lib.rt:163:34
+step : (c : tie.After-index3 Inv-loop μ-loop)
+    → Step (c .before .before .before .before .before .before .before .before .before .args .row .now) (c .before .before .before .before .before .loop .i) (c .before .before .index2 .result) (c .index3 .result) (c .before .before .before .before .before .loop .modes)
+step c =
+    let head = c .before .before .before .before .before in
+    record {
+      sound = head .before .before .before .before .pre .1 .1 .0;
+      more = rw (head .before .index .ensures .0) at (c .before .before .before .before .loop-test .taken);
+      read = record { of-a = c .before .before .index2 .ensures .0; of-b = c .index3 .ensures .0 };
+      kept = head .loop .inv .2;
+    }
+
 mul-keeps-modes : tie.Need-mul-keeps-modes Inv-loop μ-loop
-mul-keeps-modes c = ?
+mul-keeps-modes c = search needs
 
--- src/lib.rt:163:29
 add-keeps-modes : tie.Need-add-keeps-modes Inv-loop μ-loop
-add-keeps-modes c = ?
+add-keeps-modes c = search needs
 
--- src/lib.rt:163:25
 shared-slice-read-keeps-modes : tie.Need-shared-slice-read-keeps-modes Inv-loop μ-loop
-shared-slice-read-keeps-modes c = ?
+shared-slice-read-keeps-modes c = search needs
 
--- src/lib.rt:163:42
 element-copy-out-keeps-modes : tie.Need-element-copy-out-keeps-modes Inv-loop μ-loop
-element-copy-out-keeps-modes c = ?
+element-copy-out-keeps-modes c = step-cells (step (c .before)) .0
 
--- src/lib.rt:163:52
 element-copy-out-keeps-modes-2 : tie.Need-element-copy-out-keeps-modes-2 Inv-loop μ-loop
-element-copy-out-keeps-modes-2 c = ?
+element-copy-out-keeps-modes-2 c = step-cells (step (c .before .before)) .1
 
--- src/lib.rt:163:13
 keeps-modes-requires : tie.Need-keeps-modes-requires Inv-loop μ-loop
-keeps-modes-requires c κs = ?
+keeps-modes-requires c κs = search needs
 
--- src/lib.rt:164:13
 returns : tie.Need-returns Inv-loop μ-loop
-returns c = ?
+returns c = sym (breaks (step (c .before .before .before .before .before)) (sym (c .before .keeps-modes .ensures) ∙ not-true _ (c .if1 .taken)))
 
--- src/lib.rt:166:9
 element-write-modes : tie.Need-element-write-modes Inv-loop μ-loop
-element-write-modes c = ?
+element-write-modes c = step-cells (step (c .before .before .before .before .before)) .0
 
--- src/lib.rt:167:9
 add-i : tie.Need-add-i Inv-loop μ-loop
-add-i c = ?
+add-i c = search needs
 
--- src/lib.rt:160:5
 loop-less : tie.Need-loop-less Inv-loop μ-loop
-loop-less c = ?
+loop-less c = search needs
 
--- src/lib.rt:160:5
 loop-again : tie.Need-loop-again Inv-loop μ-loop
-loop-again c = ?
+loop-again c =
+    (search needs,
+    search needs,
+    kept-next (step (c .before .before .before .before .before)) (sym (c .before .keeps-modes .ensures) ∙ not-false _ (c .if1 .left)))
 
--- src/lib.rt:151:1
 returns-2 : tie.Need-returns-2 Inv-loop μ-loop
-returns-2 c = ?
+returns-2 c = sym (kept-all _ _ _ (rw (c .before .before .index .ensures .0) at (c .loop-test .left)) (c .before .loop .inv .2))
 
 pub all-keep-modes-spec : {M : Type 1} → statement M
 all-keep-modes-spec =

@@ -1,82 +1,87 @@
+-- `row::named_once` meets its contract. The invariant: the accesses from j on name no cell twice, and the table has their modes.
+use mathlib.Core.Path.{_≡_, refl, sym, ap, _∙_}
+use mathlib.Core.Bool.{false≢true}
+use Prim.Native.Nat.{_≤_, _<_}
+use native.Mathlib.Omega.{arith}
+use borrow.Author.Needs.{needs}
+use borrow.Author.Tests.{ne-eqb}
+use Rattle.layout.specs.Row.{taskOf}
+use Rattle.layout.proofs.Modes.{counts-kept}
+use Rattle.row.proofs.Once.{Passed, Turn, passed-none, next-cell, named-twice, passed-next, passed-all}
 use Rattle.row.proofs.named_once.Statement.{statement}
 use Rattle.row.proofs.named_once.Tie as tie
-use Rattle.row.proofs.named_once.Reads as reads
-use Rattle.row.proofs.named_once.Lts as lts
-use Rattle.octets.proofs.index.Reads as index-reads
 
 abbrev Inv-loop : tie.InvT-loop
-Inv-loop row modes₀ j₀ modes j = ?
+Inv-loop row modes₀ j₀ modes j = (j ≤ 4) × Passed row j modes
 
 abbrev μ-loop : tie.MeasureT-loop
-μ-loop row modes₀ j₀ modes j = ?
+μ-loop row modes₀ j₀ modes j = j
 
--- src/lib.rt:80:31
 shared-slice-read-index : tie.Need-shared-slice-read-index Inv-loop μ-loop
-shared-slice-read-index c = ?
+shared-slice-read-index c = search needs
 
--- src/lib.rt:80:9
 index-requires : tie.Need-index-requires Inv-loop μ-loop
-index-requires c κs = ?
+index-requires c κs = search needs
 
--- src/lib.rt:81:5
 loop-holds : tie.Need-loop-holds Inv-loop μ-loop
-loop-holds c = ?
+loop-holds c =
+    let start = c .before .before .before in
+    (rw (c .index .ensures .0) (counts-kept (start .args .row .now) (start .pre .1 .0) .0),
+    rw (c .index .ensures .0, start .pre .1 .1 .1) (passed-none (start .args .row .now)))
 
--- src/lib.rt:82:9
 sub-j : tie.Need-sub-j Inv-loop μ-loop
-sub-j c = ?
+sub-j c = search needs
 
--- src/lib.rt:83:42
 mul-index : tie.Need-mul-index Inv-loop μ-loop
-mul-index c = ?
+mul-index c = search needs
 
--- src/lib.rt:83:38
 add-index : tie.Need-add-index Inv-loop μ-loop
-add-index c = ?
+add-index c = search needs
 
--- src/lib.rt:83:34
 shared-slice-read-index-2 : tie.Need-shared-slice-read-index-2 Inv-loop μ-loop
-shared-slice-read-index-2 c = ?
+shared-slice-read-index-2 c = search needs
 
--- src/lib.rt:83:13
 index-requires-2 : tie.Need-index-requires-2 Inv-loop μ-loop
-index-requires-2 c κs = ?
+index-requires-2 c κs = search needs
 
--- src/lib.rt:84:12
+turn : (c : tie.After-index2 Inv-loop μ-loop)
+    → Turn (c .before .before .before .before .before .before .before .args .row .now) (c .before .before .before .loop .j) (c .index2 .result) (c .before .before .before .loop .modes)
+turn c =
+    record {
+      sound = c .before .before .before .before .before .before .before .pre .1 .1 .0;
+      more = c .before .before .loop-test .taken;
+      read = c .index2 .ensures .0;
+      passed = c .before .before .before .loop .inv .1;
+    }
+
 element-copy-out-if1 : tie.Need-element-copy-out-if1 Inv-loop μ-loop
-element-copy-out-if1 c = ?
+element-copy-out-if1 c = next-cell (turn c)
 
--- src/lib.rt:85:13
 returns : tie.Need-returns Inv-loop μ-loop
-returns c = ?
+returns c = (sym (named-twice (turn (c .before .before)) (c .if1 .taken)), λ e. absurd (false≢true e))
 
--- src/lib.rt:87:31
 mul-modes : tie.Need-mul-modes Inv-loop μ-loop
-mul-modes c = ?
+mul-modes c = search needs
 
--- src/lib.rt:87:27
 add-modes : tie.Need-add-modes Inv-loop μ-loop
-add-modes c = ?
+add-modes c = search needs
 
--- src/lib.rt:87:23
 shared-slice-read-modes : tie.Need-shared-slice-read-modes Inv-loop μ-loop
-shared-slice-read-modes c = ?
+shared-slice-read-modes c = search needs
 
--- src/lib.rt:87:9
 element-write-modes : tie.Need-element-write-modes Inv-loop μ-loop
-element-write-modes c = ?
+element-write-modes c = next-cell (turn (c .before .before .before))
 
--- src/lib.rt:81:5
 loop-less : tie.Need-loop-less Inv-loop μ-loop
-loop-less c = ?
+loop-less c = search needs
 
--- src/lib.rt:81:5
 loop-again : tie.Need-loop-again Inv-loop μ-loop
-loop-again c = ?
+loop-again c = (search needs, passed-next (turn (c .before .before .before)) (c .before .if1 .left))
 
--- src/lib.rt:73:1
 returns-2 : tie.Need-returns-2 Inv-loop μ-loop
-returns-2 c = ?
+returns-2 c =
+    let all = passed-all _ _ _ (c .loop-test .left) (c .before .loop .inv .1) in
+    (sym (all .0), λ e. all .1)
 
 pub named-once-spec : {M : Type 1} → statement M
 named-once-spec =

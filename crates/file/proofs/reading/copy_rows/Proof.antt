@@ -1,0 +1,115 @@
+use Rattle.file.proofs.reading.copy_rows.Statement.{statement}
+use Rattle.file.proofs.reading.copy_rows.Tie as tie
+use Rattle.file.proofs.reading.copy_rows.Reads as reads
+use Rattle.file.proofs.reading.copy_rows.Lts as lts
+use Rattle.bytes.proofs.copy.Reads as copy-reads
+use Rattle.file.proofs.checking.row_start.Reads as row-start-reads
+use Rattle.octets.proofs.offset.Reads as offset-reads
+
+abbrev Inv-loop : tie.InvT-loop
+Inv-loop file rows₀ tasks done₀ rows done = ?
+
+abbrev μ-loop : tie.MeasureT-loop
+μ-loop file rows₀ tasks done₀ rows done = ?
+
+-- src/reading.rt:20:5
+loop-holds : tie.Need-loop-holds Inv-loop μ-loop
+loop-holds c = ?
+
+-- src/reading.rt:21:30
+add-row-start : tie.Need-add-row-start Inv-loop μ-loop
+add-row-start c = ?
+
+-- src/reading.rt:21:13
+row-start-requires : tie.Need-row-start-requires Inv-loop μ-loop
+row-start-requires c κs = ?
+
+-- src/reading.rt:22:33
+mul-offset : tie.Need-mul-offset Inv-loop μ-loop
+mul-offset c = ?
+
+-- src/reading.rt:22:13
+offset-requires : tie.Need-offset-requires Inv-loop μ-loop
+offset-requires c κs = ?
+
+-- src/reading.rt:23:33
+add-copy : tie.Need-add-copy Inv-loop μ-loop
+add-copy c = ?
+
+-- src/reading.rt:23:21
+sub-copy : tie.Need-sub-copy Inv-loop μ-loop
+sub-copy c = ?
+
+-- src/reading.rt:23:21
+part-copy-start : tie.Need-part-copy-start Inv-loop μ-loop
+part-copy-start c = ?
+
+-- src/reading.rt:23:21
+part-copy-end : tie.Need-part-copy-end Inv-loop μ-loop
+part-copy-end c = ?
+
+-- src/reading.rt:23:59
+add-copy-2 : tie.Need-add-copy-2 Inv-loop μ-loop
+add-copy-2 c = ?
+
+-- src/reading.rt:23:45
+sub-copy-2 : tie.Need-sub-copy-2 Inv-loop μ-loop
+sub-copy-2 c = ?
+
+-- src/reading.rt:23:45
+part-copy-start-2 : tie.Need-part-copy-start-2 Inv-loop μ-loop
+part-copy-start-2 c = ?
+
+-- src/reading.rt:23:45
+part-copy-end-2 : tie.Need-part-copy-end-2 Inv-loop μ-loop
+part-copy-end-2 c = ?
+
+-- src/reading.rt:23:9
+copy-requires : tie.Need-copy-requires Inv-loop μ-loop
+copy-requires c κs = ?
+
+-- src/reading.rt:24:9
+add-done : tie.Need-add-done Inv-loop μ-loop
+add-done c = ?
+
+-- src/reading.rt:20:5
+loop-less : tie.Need-loop-less Inv-loop μ-loop
+loop-less c = ?
+
+-- src/reading.rt:20:5
+loop-again : tie.Need-loop-again Inv-loop μ-loop
+loop-again c = ?
+
+-- src/reading.rt:15:1
+same-length : tie.Need-same-length Inv-loop μ-loop
+same-length c = ?
+
+-- src/reading.rt:15:1
+returns : tie.Need-returns Inv-loop μ-loop
+returns c = ?
+
+pub copy-rows-spec : {M : Type 1} → statement M
+copy-rows-spec =
+    tie.close
+    (tie.spec
+    Inv-loop
+    μ-loop
+    loop-holds
+    add-row-start
+    row-start-requires
+    mul-offset
+    offset-requires
+    add-copy
+    sub-copy
+    part-copy-start
+    part-copy-end
+    add-copy-2
+    sub-copy-2
+    part-copy-start-2
+    part-copy-end-2
+    copy-requires
+    add-done
+    loop-less
+    loop-again
+    same-length
+    returns)

@@ -1,0 +1,2 @@
+-- What the public calls on a flow file answer and leave.
+pub mod Answers

@@ -1,0 +1,124 @@
+// The check of a file: the length, then the blocks in order, then the rows in order. It goes over the file once for the blocks
+// and once for the rows.
+use crate::Answer;
+use crate::CheckAnswer;
+use block::Sizes;
+use flow::Flow;
+ghost use mathlib.Core.Path.{_≡_};
+ghost use mathlib.Core.Bool.{true, cond};
+ghost use Prim.Native.Nat.{ℕ, _+_, _*_, _/_, _≤_, _<_};
+ghost use lib.ListN.{length};
+ghost use Rattle.layout.specs.Flow.{inRange};
+ghost use Rattle.layout.specs.Refusal.{firstAt};
+ghost use Rattle.layout.specs.Row.{rowRefusal};
+ghost use Rattle.layout.specs.Block.{blocksFor, blockRefusal};
+ghost use Rattle.layout.specs.File.{blockAt, rowAt, rowStart, lengthSound, fileAnswer};
+ghost use Rattle.file.specs.Answers.{answerOf, checkAnswer};
+
+// The blocks in so many bytes; 0 where 1 refuses them.
+fn whole_blocks(bytes: usize) -> u32
+    ensures { λ r. ⌜ r ≡ cond (lengthSound bytes) (bytes / 512) 0 ⌝ }
+{
+    if bytes == 0 {
+        return 0;
+    }
+    if bytes > 512 * Flow::MAX_BLOCKS {
+        return 0;
+    }
+    if bytes % 512 != 0 {
+        return 0;
+    }
+    (bytes / 512) as u32
+}
+
+// Where a task's row stands in a file.
+pub fn row_start(task: u32) -> usize
+    requires { ⌜ (1 ≤ task) × (task ≤ 200) ⌝ }
+    ensures { λ r. ⌜ r ≡ rowStart task ⌝ }
+{
+    let before = task - 1;
+    octets::offset(512 * (before / 10) + 16 + 48 * (before % 10))
+}
+
+// The first refusal among the blocks.
+fn blocks_met(file: &[u8], blocks: u32, first: Sizes) -> Answer
+    requires { ⌜ (length (now file) ≡ 512 * blocks) × (blocks ≤ 20) × (first .tasks < 65536) ⌝ }
+    ensures { λ r. ⌜ r ≡ answerOf (firstAt (λ index. blockRefusal blocks (first .tasks) (first .workers) (first .cells) index (blockAt (now (file .entry)) index)) 0 blocks) ⌝ }
+{
+    let mut index: u32 = 0;
+    while index < blocks {
+        let from = octets::offset(512 * index);
+        let number = block::refusal(&file[from..from + 512], index, blocks, first);
+        if number != 0 {
+            return Answer {
+                number,
+                place: index,
+            };
+        }
+        index += 1;
+    }
+    Answer {
+        number: 0,
+        place: 0,
+    }
+}
+
+// The first refusal among the rows of a file.
+fn rows_met(file: &[u8], sizes: Sizes) -> Answer
+    requires { ⌜ (length (now file) ≡ 512 * blocksFor (sizes .tasks)) × (sizes .tasks ≤ 200) × (sizes .cells ≤ 32) ⌝ }
+    ensures { λ r. ⌜ r ≡ answerOf (firstAt (λ task. rowRefusal (sizes .workers) (sizes .cells) (rowAt (now (file .entry)) task)) 1 (sizes .tasks)) ⌝ }
+{
+    let mut task: u32 = 1;
+    while task <= sizes.tasks {
+        let from = row_start(task);
+        let number = row::refusal(&file[from..from + 48], sizes.workers, sizes.cells);
+        if number != 0 {
+            return Answer {
+                number,
+                place: task,
+            };
+        }
+        task += 1;
+    }
+    Answer {
+        number: 0,
+        place: 0,
+    }
+}
+
+// The first refusal of a file.
+fn file_met(file: &[u8]) -> Answer
+    ensures { λ r. ⌜ r ≡ answerOf (fileAnswer (now (file .entry))) ⌝ }
+{
+    let blocks = whole_blocks(file.len());
+    if blocks == 0 {
+        return Answer {
+            number: 1,
+            place: 0,
+        };
+    }
+    let sizes = block::sizes_of(file);
+    let met = blocks_met(file, blocks, sizes);
+    if met.number != 0 {
+        return met;
+    }
+    rows_met(file, sizes)
+}
+
+// The check of a flow file: 0 with the flow's sizes, or the first refusal met.
+pub fn check(file: &[u8]) -> CheckAnswer
+    ensures { λ r. ⌜ r ≡ checkAnswer (now (file .entry)) ⌝ }
+{
+    let met = file_met(file);
+    if met.number != 0 {
+        return CheckAnswer::refused(met.number, met.place);
+    }
+    let sizes = block::sizes_of(file);
+    CheckAnswer {
+        number: 0,
+        place: 0,
+        tasks: sizes.tasks,
+        workers: sizes.workers,
+        cells: sizes.cells,
+    }
+}

@@ -1,0 +1,49 @@
+// The reader: a file's rows, one after another, into lent bytes.
+use crate::ReadAnswer;
+use crate::checking::check;
+use crate::checking::row_start;
+ghost use mathlib.Core.Path.{_≡_};
+ghost use mathlib.Core.List.{_++_};
+ghost use Prim.Native.Nat.{ℕ, _+_, _*_, _≤_, _<_};
+ghost use lib.ListN.{length, drop};
+ghost use Rattle.layout.specs.Lists.{each, joined};
+ghost use Rattle.layout.specs.Block.{blocksFor};
+ghost use Rattle.layout.specs.File.{rowAt};
+ghost use Rattle.file.specs.Answers.{readIs, rowsAfter};
+
+// Copies the rows of an accepted file.
+fn copy_rows(file: &[u8], rows: &mut [u8], tasks: u32)
+    requires { ⌜ (length (now file) ≡ 512 * blocksFor tasks) × (tasks ≤ 200) × (48 * tasks ≤ length (now rows)) ⌝ }
+    ensures { λ _. ⌜ now (rows .exit) ≡ joined (rowAt (now (file .entry))) (each tasks (λ i. i + 1)) ++ drop (48 * tasks) (now (rows .entry)) ⌝ }
+{
+    let mut done: u32 = 0;
+    while done < tasks {
+        let from = row_start(done + 1);
+        let to = octets::offset(48 * done);
+        bytes::copy(&file[from..from + 48], &mut rows[to..to + 48]);
+        done += 1;
+    }
+}
+
+// Reads a file into lent rows: 0 with the bytes written and the flow's sizes, or a refusal that changes no byte.
+pub fn read(file: &[u8], rows: &mut [u8]) -> ReadAnswer
+    ensures { λ r. ⌜ (r ≡ readIs (now (file .entry)) (now (rows .entry))) × (now (rows .exit) ≡ rowsAfter (now (file .entry)) (now (rows .entry))) ⌝ }
+{
+    let met = check(file);
+    if met.number != 0 {
+        return ReadAnswer::refused(met.number, met.place);
+    }
+    let bytes = 48 * met.tasks;
+    if rows.len() < octets::offset(bytes) {
+        return ReadAnswer::refused(16, 0);
+    }
+    copy_rows(file, rows, met.tasks);
+    ReadAnswer {
+        number: 0,
+        place: 0,
+        bytes,
+        tasks: met.tasks,
+        workers: met.workers,
+        cells: met.cells,
+    }
+}

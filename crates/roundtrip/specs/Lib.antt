@@ -1,0 +1,2 @@
+-- What an accepted file promises of its flow.
+pub mod Sound

@@ -1,0 +1,35 @@
+-- What holds of a flow that a file is accepted as (01, "What is built", and refusals 4 and 6 to 11), said of the flow alone: no
+-- byte is named.
+use mathlib.Core.Path.{_≡_}
+use mathlib.Core.Bool.{true}
+use Prim.Native.Nat.{ℕ, _<_, _≤_}
+use lib.ListN.{length, getD}
+use Rattle.layout.specs.Lists.{all}
+use Rattle.layout.specs.Flow.{Task, Flow, mostTasks, mostWorkers, mostCells, mostAccesses, mostOperations}
+use Rattle.layout.specs.Row.{accessInRange, namedOnce, operationInRange, modesSound}
+
+-- "A flow has 1 to 200 tasks, 1 to 8 workers and 1 to 32 cells"
+pub record Sizes (tasks workers cells : ℕ) : Type 0 where
+  pub some-task : 1 ≤ tasks
+  pub tasks-fit : tasks ≤ mostTasks
+  pub some-worker : 1 ≤ workers
+  pub workers-fit : workers ≤ mostWorkers
+  pub some-cell : 1 ≤ cells
+  pub cells-fit : cells ≤ mostCells
+
+-- a task of a flow with so many workers and cells
+pub record TaskSound (workers cells : ℕ) (task : Task) : Type 0 where
+  pub owned : task .owner < workers
+  pub some-access : 1 ≤ length (task .accesses)
+  pub accesses-fit : length (task .accesses) ≤ mostAccesses
+  pub operations-fit : length (task .operations) ≤ mostOperations
+  pub accesses-in-range : all (accessInRange cells) (task .accesses) ≡ true
+  pub named-once : namedOnce (task .accesses) ≡ true
+  pub operations-in-range : all (operationInRange cells) (task .operations) ≡ true
+  pub modes-kept : modesSound task ≡ true
+
+pub record Sound (flow : Flow) : Type 0 where
+  pub sizes : Sizes (length (flow .tasks)) (flow .workers) (flow .cells)
+  -- the task at each index below their number, whatever stands for a task past the end
+  pub each-task : (i : ℕ) (none : Task) → i < length (flow .tasks)
+      → TaskSound (flow .workers) (flow .cells) (getD (flow .tasks) i none)

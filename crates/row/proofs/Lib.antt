@@ -1,0 +1,5 @@
+-- Laws that the proofs of the row check share.
+pub mod Table
+pub mod Operation
+pub mod Once
+pub mod Keeps

@@ -1,0 +1,29 @@
+-- One operation of rule 10, its numbers read from the row one by one.
+use mathlib.Core.Path.{_≡_, refl, sym, ap, _∙_}
+use mathlib.Core.Bool.{Bool, cond, _&&_}
+use mathlib.Core.List.{List}
+use Prim.Native.Nat.{ℕ, _+_, _*_}
+use native.Mathlib.Omega.{arith}
+use borrow.Author.Tests.{eq-eqb, ne-eqb}
+use lib.Dec.{eqb, ltb}
+use Rattle.layout.specs.Bytes.{at, word}
+use Rattle.layout.specs.Flow.{upTo}
+use Rattle.layout.specs.Row.{operationAt, spareAt, zerosKept, operationSound}
+
+-- the cells of an operation, as they were read
+pub record Read (row : List ℕ) (i a b : ℕ) : Type 0 where
+  pub of-a : a ≡ at row (13 + 6 * i)
+  pub of-b : b ≡ at row (14 + 6 * i)
+
+module _ {row : List ℕ} {i a b : ℕ} (cells : ℕ) (read : Read row i a b) where
+  -- with code 1 b is zero
+  pub sound-first : at row (12 + 6 * i) ≡ 1
+      → (upTo 6 (at row (12 + 6 * i)) && ltb a cells && ltb b cells && eqb b 0 && eqb (spareAt row i) 0) ≡ operationSound cells row i
+  sound-first one = rw (read .of-a, read .of-b, one)
+
+  -- with another code k is
+  pub sound-other : (k : ℕ) → k ≡ at row (16 + 6 * i) + 256 * at row (17 + 6 * i) → (at row (12 + 6 * i) ≡ 1 → ⊥)
+      → (upTo 6 (at row (12 + 6 * i)) && ltb a cells && ltb b cells && eqb k 0 && eqb (spareAt row i) 0) ≡ operationSound cells row i
+  sound-other k of-k other =
+      let high : 16 + 6 * i + 1 ≡ 17 + 6 * i = omega arith in
+      rw (read .of-a, read .of-b, of-k, high, ne-eqb (at row (12 + 6 * i)) 1 other)
