@@ -1,20 +1,20 @@
--- Laws of a row's accesses and operations: what the rules 7, 8 and 10 tell of its bytes, and what rules 9 and 11 say of the accesses
+-- Laws of a row's accesses and operations: what rules 7, 8 and 10 tell of its bytes, and what rules 9 and 11 say of the accesses
 -- or operations from some index on.
 use mathlib.Core.Path.{_≡_, refl, sym, ap, _∙_}
 use mathlib.Core.Bool.{Bool, true, false, not, cond, _&&_, _||_}
 use mathlib.Core.List.{List, [], _∷_}
 use Prim.Native.Nat.{ℕ, zero, suc, _+_, _-_, _*_, _≤_, _<_}
-use native.Mathlib.Nat.{le-trans, lt-of-lt-of-le}
+use native.Mathlib.Nat.{lt-of-lt-of-le}
 use native.Mathlib.Omega.{arith}
 use native.Mathlib.Numerals.{add-one}
-use borrow.Author.Tests.{ltb-true, lt-ltb, leb-true, ne-eqb, eqb-true}
+use borrow.Author.Tests.{ltb-true, lt-ltb, leb-true, ne-eqb}
 use lib.ListN.{length, drop, drop-of-length-le}
 use lib.Seq.{drop-cons}
 use lib.Dec.{eqb, leb, ltb}
 use Rattle.layout.specs.Lists.{each, all, any}
 use Rattle.layout.specs.Bytes.{at, part, allZero}
 use Rattle.layout.specs.Flow.{Access, Operation, upTo}
-use Rattle.layout.specs.Row.{accessAt, operationAt, spareAt, taskOf, countsSound, accessInRange, accessesSound, modeOf, mayWrite, mayRead, readsA, readsB, written, names, namedOnce, zerosKept, operationInRange, operationSound, operationsSound, keepsModes, allKeepModes}
+use Rattle.layout.specs.Row.{accessAt, operationAt, spareAt, taskOf, countsSound, accessInRange, accessesSound, modeOf, names, namedOnce, zerosKept, operationSound, operationsSound, keepsModes, allKeepModes}
 use Rattle.layout.proofs.Lists.{and-false, and-left, and-right, and-both, each-length, each-at, all-keeps}
 
 -- ---- a list from some index on
@@ -60,16 +60,19 @@ module _ {A : Type 0} where
 pub counts-kept : (row : List ℕ) → countsSound row ≡ true → (at row 1 ≤ 4) × (at row 2 ≤ 6)
 counts-kept row h =
     let both = and-left (upTo 4 (at row 1) && leb (at row 2) 6) (eqb (at row 3) 0) h in
-    let first = and-left (upTo 4 (at row 1)) (leb (at row 2) 6) both in
-    (leb-true (at row 1) 4 (and-right (leb 1 (at row 1)) (leb (at row 1) 4) first),
-    leb-true (at row 2) 6 (and-right (upTo 4 (at row 1)) (leb (at row 2) 6) both))
+    let first = and-left (upTo 4 (at row 1)) (leb (at row 2) 6) both in (
+      leb-true (at row 1) 4 (and-right (leb 1 (at row 1)) (leb (at row 1) 4) first),
+      leb-true (at row 2) 6 (and-right (upTo 4 (at row 1)) (leb (at row 2) 6) both),
+    )
 
 ltb-more : (n cells more : ℕ) → cells ≤ more → ltb n cells ≡ true → ltb n more ≡ true
 ltb-more n cells more h t = lt-ltb n more (lt-of-lt-of-le (ltb-true n cells t) h)
 
+-- both of two tests, each of which is a weaker one
 and-weaker : {x x′ y y′ : Bool} → (x ≡ true → x′ ≡ true) → (y ≡ true → y′ ≡ true) → (x && y) ≡ true → (x′ && y′) ≡ true
 and-weaker {x} {x′} {y} {y′} p q t = and-both x′ y′ (p (and-left x y t)) (q (and-right x y t))
 
+-- a test as it is
 same : (x : Bool) → x ≡ true → x ≡ true
 same x t = t
 
@@ -104,16 +107,17 @@ operation-cells cells row i t h =
     let b = ltb (at row (14 + 6 * i)) cells in
     (ltb-true _ _ (and-right known a (and-left (known && a) b both)), ltb-true _ _ (and-right (known && a) b both))
 
+-- and so it has where there are more cells
 pub operations-more : (cells more : ℕ) (row : List ℕ) → cells ≤ more → operationsSound cells row ≡ true → operationsSound more row ≡ true
 unfolding operationsSound
 operations-more cells more row h =
     and-weaker
     (all-weaker (operationSound cells row) (operationSound more row)
     (λ i.
-      and-weaker
-      (and-weaker (and-weaker (and-weaker (same (upTo 6 (at row (12 + 6 * i)))) (ltb-more (at row (13 + 6 * i)) cells more h)) (ltb-more (at row (14 + 6 * i)) cells more h))
-      (same (zerosKept (operationAt row i))))
-      (same (eqb (spareAt row i) 0)))
+    and-weaker
+    (and-weaker (and-weaker (and-weaker (same (upTo 6 (at row (12 + 6 * i)))) (ltb-more (at row (13 + 6 * i)) cells more h)) (ltb-more (at row (14 + 6 * i)) cells more h))
+    (same (zerosKept (operationAt row i))))
+    (same (eqb (spareAt row i) 0)))
     (each (at row 2) (λ i. i)))
     (same (allZero (part (12 + 6 * at row 2) 48 row)))
 
@@ -132,6 +136,7 @@ names-mode cells (x ∷ xs) cell t =
         leb-true 1 (x .mode)
         (and-left (leb 1 (x .mode)) (leb (x .mode) 3)
         (and-right (ltb (x .cell) cells) (upTo 3 (x .mode)) (and-left (accessInRange cells x) (all (accessInRange cells) xs) t)))
+
     go : (here : Bool) → names xs cell ≡ not (eqb (modeOf xs cell) 0)
         → (here || names xs cell) ≡ not (eqb (cond here (x .mode) (modeOf xs cell)) 0)
     go true later = ap not (sym (ne-eqb (x .mode) 0 (λ e. omega (arith, moded))))
@@ -155,7 +160,7 @@ earlier (suc i) f = f i ∷ earlier i f
 -- one operation more
 pub keep-next : (accesses : List Access) (n : ℕ) (f : ℕ → Operation) (i : ℕ) → i < n
     → allKeepModes accesses (earlier i f) (drop i (each n f))
-      ≡ (keepsModes accesses (earlier i f) (f i) && allKeepModes accesses (earlier (i + 1) f) (drop (i + 1) (each n f)))
+    ≡ (keepsModes accesses (earlier i f) (f i) && allKeepModes accesses (earlier (i + 1) f) (drop (i + 1) (each n f)))
 unfolding allKeepModes earlier
 keep-next accesses n f i h =
     ap (allKeepModes accesses (earlier i f)) (each-drop n f i h)

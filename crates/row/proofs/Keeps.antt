@@ -1,13 +1,12 @@
 -- Rule 11 by the table of modes: what all operations keep to is what those from some index on keep to, after the ones before it.
 use mathlib.Core.Path.{_≡_, refl, sym, ap, _∙_}
-use mathlib.Core.Bool.{Bool, true, false, _&&_, false≢true}
+use mathlib.Core.Bool.{true, false, _&&_, false≢true}
 use mathlib.Core.List.{List, [], _∷_}
 use Prim.Native.Nat.{ℕ, zero, suc, _+_, _*_, _≤_, _<_, zero-le, suc-le-suc}
 use native.Mathlib.Omega.{arith}
 use native.Mathlib.Numerals.{add-one}
 use lib.ListN.{length, getD, set, drop}
 use Rattle.layout.specs.Bytes.{at}
-use Rattle.layout.specs.Flow.{Access, Operation}
 use Rattle.layout.specs.Row.{operationAt, taskOf, operationsSound, mayWrite, keepsModes, allKeepModes, modesSound}
 use Rattle.layout.proofs.Lists.{and-left}
 use Rattle.layout.proofs.Modes.{each-drop-all, operation-cells, earlier, keep-next}
@@ -20,7 +19,7 @@ pub record Kept (row : List ℕ) (i : ℕ) (modes : List ℕ) : Type 0 where
   pub most : i ≤ at row 2
   pub table : Table (taskOf row .accesses) (earlier i (operationAt row)) modes
   pub rest : modesSound (taskOf row)
-    ≡ allKeepModes (taskOf row .accesses) (earlier i (operationAt row)) (drop i (taskOf row .operations))
+      ≡ allKeepModes (taskOf row .accesses) (earlier i (operationAt row)) (drop i (taskOf row .operations))
 
 pub kept-none : (row modes : List ℕ) → Table (taskOf row .accesses) [] modes → Kept row 0 modes
 unfolding earlier
@@ -67,8 +66,8 @@ module _ {row : List ℕ} {i a b : ℕ} {modes : List ℕ} (step : Step row i a 
       record {
         most = omega arith;
         table =
-          rw (add-one, step .read .of-a)
-          (table-operation (taskOf row .accesses) (earlier i (operationAt row)) (operationAt row i) modes within (sym asked ∙ keeps) (step .kept .table));
+            rw (add-one, step .read .of-a)
+            (table-operation (taskOf row .accesses) (earlier i (operationAt row)) (operationAt row i) modes within (sym asked ∙ keeps) (step .kept .table));
         rest = rw keeps at next;
       }
 

@@ -1,6 +1,6 @@
 -- Rule 9 by the table of modes: the accesses from some index on name no cell twice, and the table has their modes.
 use mathlib.Core.Path.{_≡_, refl, sym, ap, _∙_}
-use mathlib.Core.Bool.{Bool, true, false, not, _&&_}
+use mathlib.Core.Bool.{Bool, true, false, not, _&&_, and-true, Bool·not-not}
 use mathlib.Core.List.{List, [], _∷_}
 use Prim.Native.Nat.{ℕ, zero, suc, _+_, _-_, _*_, _≤_, _<_}
 use native.Mathlib.Nat.{le-refl, not-suc-le-zero}
@@ -10,9 +10,7 @@ use lib.ListN.{length, getD, set, drop, replicate, length-set}
 use lib.Dec.{eqb}
 use Rattle.layout.specs.Lists.{all}
 use Rattle.layout.specs.Bytes.{at}
-use Rattle.layout.specs.Flow.{Access}
 use Rattle.layout.specs.Row.{accessAt, taskOf, accessInRange, modeOf, names, namedOnce}
-use Rattle.layout.proofs.Zeros.{and-true}
 use Rattle.layout.proofs.Modes.{each-drop-less, each-drop-all, all-drop, access-cell, names-mode, once-drop}
 use Rattle.row.specs.Table.{Table}
 use Rattle.row.proofs.Table.{mode-first, table-none, table-access}
@@ -23,10 +21,6 @@ pub record Passed (row : List ℕ) (j : ℕ) (modes : List ℕ) : Type 0 where
   pub size : length modes ≡ 32
   pub once : namedOnce (drop j (taskOf row .accesses)) ≡ true
   pub table : Table (drop j (taskOf row .accesses)) [] modes
-
-not-not : (x : Bool) → not (not x) ≡ x
-not-not true = refl
-not-not false = refl
 
 pub passed-none : (row : List ℕ) → Passed row (at row 1) (replicate 32 0)
 unfolding taskOf namedOnce
@@ -54,7 +48,7 @@ module _ {row : List ℕ} {j cell : ℕ} {modes : List ℕ} (turn : Turn row j c
   pub next-cell : cell < 32
   next-cell = rw (turn .read) (access-cell 32 row (j - 1) (turn .sound) (omega arith))
 
-  -- it is named once where the table has no mode for it
+  -- its cell is named once where the table has no mode for it
   once-next : namedOnce (drop (j - 1) (taskOf row .accesses)) ≡ eqb (getD modes cell 0) 0
   unfolding namedOnce
   once-next =
@@ -62,7 +56,7 @@ module _ {row : List ℕ} {j cell : ℕ} {modes : List ℕ} (turn : Turn row j c
       ap namedOnce next ∙ ap (λ (t : Bool). not (names rest (at row (4 + 2 * (j - 1)))) && t) (turn .passed .once) ∙ and-true _
       ∙ ap (λ (k : ℕ). not (names rest k)) (sym (turn .read))
       ∙ ap not (names-mode 32 rest cell (all-drop (accessInRange 32) j (taskOf row .accesses) (turn .sound)))
-      ∙ not-not (eqb (modeOf rest cell) 0)
+      ∙ Bool·not-not (eqb (modeOf rest cell) 0)
       ∙ ap (λ (n : ℕ). eqb n 0) (sym (turn .passed .table .holds cell next-cell ∙ mode-first rest cell))
 
   pub named-twice : (getD modes cell 0 ≡ 0 → ⊥) → namedOnce (taskOf row .accesses) ≡ false
@@ -76,7 +70,7 @@ module _ {row : List ℕ} {j cell : ℕ} {modes : List ℕ} (turn : Turn row j c
         size = simp length-set (turn .passed .size);
         once = once-next ∙ eq-eqb (getD modes cell 0) 0 free;
         table =
-          rw (next, turn .read) (table-access (drop j (taskOf row .accesses)) (accessAt row (j - 1)) modes within (turn .passed .table));
+            rw (next, turn .read) (table-access (drop j (taskOf row .accesses)) (accessAt row (j - 1)) modes within (turn .passed .table));
       }
 
 -- once all are in the table

@@ -1,14 +1,14 @@
 -- One operation of rule 10, its numbers read from the row one by one.
-use mathlib.Core.Path.{_≡_, refl, sym, ap, _∙_}
-use mathlib.Core.Bool.{Bool, cond, _&&_}
+use mathlib.Core.Path.{_≡_}
+use mathlib.Core.Bool.{_&&_}
 use mathlib.Core.List.{List}
 use Prim.Native.Nat.{ℕ, _+_, _*_}
 use native.Mathlib.Omega.{arith}
-use borrow.Author.Tests.{eq-eqb, ne-eqb}
+use borrow.Author.Tests.{ne-eqb}
 use lib.Dec.{eqb, ltb}
-use Rattle.layout.specs.Bytes.{at, word}
+use Rattle.layout.specs.Bytes.{at}
 use Rattle.layout.specs.Flow.{upTo}
-use Rattle.layout.specs.Row.{operationAt, spareAt, zerosKept, operationSound}
+use Rattle.layout.specs.Row.{spareAt, operationSound}
 
 -- the cells of an operation, as they were read
 pub record Read (row : List ℕ) (i a b : ℕ) : Type 0 where

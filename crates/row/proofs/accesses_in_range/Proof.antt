@@ -35,9 +35,10 @@ loop-less : tie.Need-loop-less Inv-loop μ-loop
 loop-less c = search needs
 
 loop-again : tie.Need-loop-again Inv-loop μ-loop
-loop-again c =
-    (search needs,
-    all-more _ _ _ (c .before .before .before .loop .inv .1) (sym (c .before .access-in-range .ensures) ∙ not-false _ (c .if1 .left)))
+loop-again c = (
+  search needs,
+  all-more _ _ _ (c .before .before .before .loop .inv .1) (sym (c .before .access-in-range .ensures) ∙ not-false _ (c .if1 .left)),
+)
 
 returns-2 : tie.Need-returns-2 Inv-loop μ-loop
 returns-2 c = sym (all-whole _ _ _ _ (c .before .loop .inv .0) (c .loop-test .left) (c .before .loop .inv .1))

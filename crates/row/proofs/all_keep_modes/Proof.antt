@@ -1,7 +1,6 @@
 -- `row::all_keep_modes` meets its contract. The invariant: what all operations keep to is what those from i on keep to, and the table has the modes after the ones before.
-use mathlib.Core.Path.{_≡_, sym, _∙_}
-use Prim.Native.Nat.{_≤_, _<_, _-_}
-use native.Mathlib.Omega.{arith}
+use mathlib.Core.Path.{sym, _∙_}
+use Prim.Native.Nat.{_≤_, _-_}
 use borrow.Author.Needs.{needs}
 use borrow.Author.Tests.{not-true, not-false}
 use Rattle.layout.proofs.Modes.{counts-kept}
@@ -23,10 +22,11 @@ index-requires c κs = search needs
 
 loop-holds : tie.Need-loop-holds Inv-loop μ-loop
 loop-holds c =
-    let start = c .before .before .before in
-    (search needs,
-    rw (c .index .ensures .0) (counts-kept (start .args .row .now) (start .pre .1 .0) .1),
-    kept-none (start .args .row .now) (start .args .modes .now) (start .pre .1 .1 .1))
+    let start = c .before .before .before in (
+      search needs,
+      rw (c .index .ensures .0) (counts-kept (start .args .row .now) (start .pre .1 .0) .1),
+      kept-none (start .args .row .now) (start .args .modes .now) (start .pre .1 .1 .1),
+    )
 
 mul-index : tie.Need-mul-index Inv-loop μ-loop
 mul-index c = search needs
@@ -94,10 +94,11 @@ loop-less : tie.Need-loop-less Inv-loop μ-loop
 loop-less c = search needs
 
 loop-again : tie.Need-loop-again Inv-loop μ-loop
-loop-again c =
-    (search needs,
-    search needs,
-    kept-next (step (c .before .before .before .before .before)) (sym (c .before .keeps-modes .ensures) ∙ not-false _ (c .if1 .left)))
+loop-again c = (
+  search needs,
+  search needs,
+  kept-next (step (c .before .before .before .before .before)) (sym (c .before .keeps-modes .ensures) ∙ not-false _ (c .if1 .left)),
+)
 
 returns-2 : tie.Need-returns-2 Inv-loop μ-loop
 returns-2 c = sym (kept-all _ _ _ (rw (c .before .before .index .ensures .0) at (c .loop-test .left)) (c .before .loop .inv .2))

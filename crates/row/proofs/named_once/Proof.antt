@@ -1,11 +1,8 @@
 -- `row::named_once` meets its contract. The invariant: the accesses from j on name no cell twice, and the table has their modes.
-use mathlib.Core.Path.{_≡_, refl, sym, ap, _∙_}
+use mathlib.Core.Path.{sym}
 use mathlib.Core.Bool.{false≢true}
-use Prim.Native.Nat.{_≤_, _<_}
-use native.Mathlib.Omega.{arith}
+use Prim.Native.Nat.{_≤_}
 use borrow.Author.Needs.{needs}
-use borrow.Author.Tests.{ne-eqb}
-use Rattle.layout.specs.Row.{taskOf}
 use Rattle.layout.proofs.Modes.{counts-kept}
 use Rattle.row.proofs.Once.{Passed, Turn, passed-none, next-cell, named-twice, passed-next, passed-all}
 use Rattle.row.proofs.named_once.Statement.{statement}
@@ -25,9 +22,10 @@ index-requires c κs = search needs
 
 loop-holds : tie.Need-loop-holds Inv-loop μ-loop
 loop-holds c =
-    let start = c .before .before .before in
-    (rw (c .index .ensures .0) (counts-kept (start .args .row .now) (start .pre .1 .0) .0),
-    rw (c .index .ensures .0, start .pre .1 .1 .1) (passed-none (start .args .row .now)))
+    let start = c .before .before .before in (
+      rw (c .index .ensures .0) (counts-kept (start .args .row .now) (start .pre .1 .0) .0),
+      rw (c .index .ensures .0, start .pre .1 .1 .1) (passed-none (start .args .row .now)),
+    )
 
 sub-j : tie.Need-sub-j Inv-loop μ-loop
 sub-j c = search needs
@@ -80,8 +78,8 @@ loop-again c = (search needs, passed-next (turn (c .before .before .before)) (c 
 
 returns-2 : tie.Need-returns-2 Inv-loop μ-loop
 returns-2 c =
-    let all = passed-all _ _ _ (c .loop-test .left) (c .before .loop .inv .1) in
-    (sym (all .0), λ e. all .1)
+    let whole = passed-all _ _ _ (c .loop-test .left) (c .before .loop .inv .1) in
+    (sym (whole .0), λ e. whole .1)
 
 pub named-once-spec : {M : Type 1} → statement M
 named-once-spec =

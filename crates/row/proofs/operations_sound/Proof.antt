@@ -1,5 +1,4 @@
 -- `row::operations_sound` meets its contract. It is what its two parts ensure, at the number of operations that the row states.
-use mathlib.Core.Path.{_≡_}
 use Prim.Native.Nat.{_≤_}
 use native.Mathlib.Omega.{arith}
 use borrow.Author.Needs.{needs}

@@ -1,6 +1,6 @@
 -- `row::refusal` meets its contract: the rules are asked in their order, and what the rules before tell is what the next one asks for.
 use mathlib.Core.Path.{_≡_, refl, sym, _∙_}
-use mathlib.Core.Bool.{true, false}
+use mathlib.Core.Bool.{true, cond}
 use borrow.Author.Needs.{needs}
 use borrow.Author.Tests.{not-true, not-false}
 use Rattle.layout.specs.Refusal.{firstBroken}
@@ -68,20 +68,25 @@ returns-5 c =
 
 all-keep-modes-requires : tie.Need-all-keep-modes-requires
 all-keep-modes-requires c κs =
-    let start = c .before .before .before .before .before .before .before .before .before .before .before .before .before in
-    (start .pre .0,
-    (kept-7 (c .before .before .before .before .before .before .before .before),
-    (operations-more _ 32 _ (start .pre .1) (kept-10 (c .before)), c .before .before .before .before .named-once .ensures .1 (not-false _ (c .before .before .before .if4 .left)))))
+    let start = c .before .before .before .before .before .before .before .before .before .before .before .before .before in (
+      start .pre .0,
+      (
+        kept-7 (c .before .before .before .before .before .before .before .before),
+        (operations-more _ 32 _ (start .pre .1) (kept-10 (c .before)), c .before .before .before .before .named-once .ensures .1 (not-false _ (c .before .before .before .if4 .left))),
+      ),
+    )
+
+last-rule : (c : tie.After-all-keep-modes)
+    → rowRefusal (c .before .before .before .before .before .before .before .before .before .before .before .before .before .before .args .workers) (c .before .before .before .before .before .before .before .before .before .before .before .before .before .before .args .cells) (c .before .before .before .before .before .before .before .before .before .before .before .before .before .before .args .row .now) ≡ cond (c .all-keep-modes .result) 0 11
+unfolding rowRefusal firstBroken
+last-rule c =
+    rw (kept-6 (c .before .before .before .before .before .before .before .before .before .before .before), kept-7 (c .before .before .before .before .before .before .before .before .before), kept-8 (c .before .before .before .before .before .before .before), kept-9 (c .before .before .before .before), kept-10 (c .before .before), c .all-keep-modes .ensures)
 
 returns-6 : tie.Need-returns-6
-unfolding rowRefusal firstBroken
-returns-6 c =
-    rw (kept-6 (c .before .before .before .before .before .before .before .before .before .before .before .before), kept-7 (c .before .before .before .before .before .before .before .before .before .before), kept-8 (c .before .before .before .before .before .before .before .before), kept-9 (c .before .before .before .before .before), kept-10 (c .before .before .before), sym (c .before .all-keep-modes .ensures) ∙ not-true _ (c .if6 .taken))
+returns-6 c = rw (last-rule (c .before), not-true (c .before .all-keep-modes .result) (c .if6 .taken))
 
 returns-7 : tie.Need-returns-7
-unfolding rowRefusal firstBroken
-returns-7 c =
-    rw (kept-6 (c .before .before .before .before .before .before .before .before .before .before .before .before), kept-7 (c .before .before .before .before .before .before .before .before .before .before), kept-8 (c .before .before .before .before .before .before .before .before), kept-9 (c .before .before .before .before .before), kept-10 (c .before .before .before), sym (c .before .all-keep-modes .ensures) ∙ not-false _ (c .if6 .left))
+returns-7 c = rw (last-rule (c .before), not-false (c .before .all-keep-modes .result) (c .if6 .left))
 
 pub refusal-spec : {M : Type 1} → statement M
 refusal-spec =

@@ -1,0 +1,2 @@
+-- Theorems over the rules of the runs.
+pub mod Bench

@@ -1,0 +1,102 @@
+-- Flow A on the bench (01, "A flow on the bench"): its file, byte for byte, and the cases P1 to P10 as a table of what is got and what
+-- is expected. `proofs/Bench.antt` proves the table under a single statement.
+use mathlib.Core.List.{List, [], _∷_, _++_}
+use Prim.Native.Nat.{ℕ}
+use lib.ListN.{replicate}
+use Rattle.layout.specs.Fletcher.{Sums, fletcher}
+use Rattle.layout.specs.Flow.{Operation}
+use Rattle.steps.specs.Operations.{effect, operated}
+use Rattle.steps.specs.Answers.{Told, plainAnswer, plainCells, runTold, runCells}
+
+-- ---- the file: 2 workers, 3 cells, 3 tasks
+
+unfoldable pub head : List ℕ
+head = 83 ∷ 70 ∷ 76 ∷ 87 ∷ 1 ∷ 3 ∷ 0 ∷ 0 ∷ 1 ∷ 0 ∷ 3 ∷ 0 ∷ 2 ∷ 3 ∷ 0 ∷ 0 ∷ []
+
+-- so many bytes, and zeros up to the size of a row
+unfoldable pub row : List ℕ → ℕ → List ℕ
+row bytes zeros = bytes ++ replicate zeros 0
+
+-- task 1, owner 0, write 0: cell 0 becomes 4660
+unfoldable pub row1 : List ℕ
+unfolding row
+row1 = row (0 ∷ 1 ∷ 1 ∷ 0 ∷ 0 ∷ 2 ∷ 0 ∷ 0 ∷ 0 ∷ 0 ∷ 0 ∷ 0 ∷ 1 ∷ 0 ∷ 0 ∷ 0 ∷ 52 ∷ 18 ∷ []) 30
+
+-- task 2, owner 1, read 0, write 1: cell 1 becomes cell 0 swapped
+unfoldable pub row2 : List ℕ
+unfolding row
+row2 = row (1 ∷ 2 ∷ 1 ∷ 0 ∷ 0 ∷ 1 ∷ 1 ∷ 2 ∷ 0 ∷ 0 ∷ 0 ∷ 0 ∷ 5 ∷ 1 ∷ 0 ∷ 0 ∷ 0 ∷ 0 ∷ []) 30
+
+-- task 3, owner 0, read 1, read-and-write 2: cell 2 becomes cell 2 + cell 1
+unfoldable pub row3 : List ℕ
+unfolding row
+row3 = row (0 ∷ 2 ∷ 1 ∷ 0 ∷ 1 ∷ 1 ∷ 2 ∷ 3 ∷ 0 ∷ 0 ∷ 0 ∷ 0 ∷ 3 ∷ 2 ∷ 1 ∷ 0 ∷ 0 ∷ 0 ∷ []) 30
+
+unfoldable pub flowA : List ℕ
+unfolding head row1 row2 row3
+flowA = head ++ (row1 ++ (row2 ++ (row3 ++ (replicate 350 0 ++ (179 ∷ 242 ∷ [])))))
+
+-- "Start 0, 0, 5"
+abbrev pub start : List ℕ
+start = 0 ∷ 0 ∷ 5 ∷ []
+
+-- ---- what a case gives, as a list of numbers
+
+-- the plain run's number and place, and the cells
+unfoldable pub plainOf : List ℕ
+plainOf = plainAnswer flowA start .number ∷ plainAnswer flowA start .place ∷ plainCells flowA start
+
+-- the stepped run's number, place, advanced, held, done, finished, and the cells
+unfoldable pub ranOn : List ℕ → List ℕ
+ranOn schedule =
+    let told : Told = runTold flowA start schedule in
+    told .number ∷ told .place ∷ told .advanced ∷ told .held ∷ told .done ∷ told .finished ∷ runCells flowA start schedule
+
+-- check A and check B
+unfoldable pub sumsOf : List ℕ → List ℕ
+sumsOf bytes = fletcher bytes .a ∷ fletcher bytes .b ∷ []
+
+-- cells 0 and 1 after an operation that writes 0 and reads 1
+unfoldable pub madeOn : ℕ → ℕ → ℕ → List ℕ
+madeOn code a b = operated effect (record { code = code; a = 0; b = 1; k = 0 }) (a ∷ b ∷ [])
+
+-- ---- the table
+
+pub record Case : Type 0 where
+  pub got : List ℕ
+  pub expected : List ℕ
+
+abbrev pub gives : List ℕ → List ℕ → Case
+gives got expected = record { got = got; expected = expected }
+
+-- "0 six times, 1 nine times, 0 seven times"
+unfoldable pub whole : List ℕ
+whole = replicate 6 0 ++ (replicate 9 1 ++ replicate 7 0)
+
+unfoldable pub bench : List Case
+bench =
+    -- P1
+    gives plainOf (0 ∷ 0 ∷ 4660 ∷ 13330 ∷ 13335 ∷ [])
+    -- P2
+    ∷ gives (ranOn []) (0 ∷ 0 ∷ 0 ∷ 0 ∷ 0 ∷ 0 ∷ start)
+    -- P3
+    ∷ gives (ranOn (1 ∷ 1 ∷ [])) (0 ∷ 0 ∷ 1 ∷ 1 ∷ 0 ∷ 0 ∷ start)
+    -- P4
+    ∷ gives (ranOn (0 ∷ 0 ∷ 0 ∷ [])) (0 ∷ 0 ∷ 3 ∷ 0 ∷ 1 ∷ 0 ∷ 4660 ∷ 0 ∷ 5 ∷ [])
+    -- P5
+    ∷ gives (ranOn (0 ∷ 0 ∷ 0 ∷ 0 ∷ 1 ∷ 1 ∷ [])) (0 ∷ 0 ∷ 5 ∷ 1 ∷ 1 ∷ 0 ∷ 4660 ∷ 0 ∷ 5 ∷ [])
+    -- P6
+    ∷ gives (ranOn (replicate 7 0)) (0 ∷ 0 ∷ 6 ∷ 1 ∷ 1 ∷ 0 ∷ 4660 ∷ 0 ∷ 5 ∷ [])
+    -- P7
+    ∷ gives (ranOn whole) (0 ∷ 0 ∷ 22 ∷ 0 ∷ 3 ∷ 1 ∷ 4660 ∷ 13330 ∷ 13335 ∷ [])
+    -- P8
+    ∷ gives (ranOn (whole ++ (0 ∷ []))) (0 ∷ 0 ∷ 22 ∷ 1 ∷ 3 ∷ 1 ∷ 4660 ∷ 13330 ∷ 13335 ∷ [])
+    -- P9: no bytes, the byte 255, and "abcde"
+    ∷ gives (sumsOf []) (0 ∷ 0 ∷ [])
+    ∷ gives (sumsOf (255 ∷ [])) (0 ∷ 0 ∷ [])
+    ∷ gives (sumsOf (97 ∷ 98 ∷ 99 ∷ 100 ∷ 101 ∷ [])) (240 ∷ 200 ∷ [])
+    -- P10
+    ∷ gives (madeOn 3 4294967295 1) (0 ∷ 1 ∷ [])
+    ∷ gives (madeOn 4 0 1) (4294967295 ∷ 1 ∷ [])
+    ∷ gives (madeOn 5 4294967295 74565) (17699 ∷ 74565 ∷ [])
+    ∷ []

@@ -1,0 +1,8 @@
+-- The rules of 01 for running a flow. Each module opens with what it defines and with the part of 01 that it stands for.
+pub mod Operations
+pub mod Plain
+pub mod Machine
+pub mod Step
+pub mod Run
+pub mod Answers
+pub mod Bench

@@ -1,0 +1,79 @@
+-- A run under a schedule, its counts, and the flow's total (01, "The steps").
+use mathlib.Core.Bool.{Bool, cond, _&&_, _||_}
+use mathlib.Core.List.{List, [], _∷_}
+use Prim.Native.Nat.{ℕ, _+_, _-_}
+use lib.ListN.{length}
+use lib.Dec.{eqb, leb, ltb}
+use Rattle.layout.specs.Lists.{each, all}
+use Rattle.layout.specs.Flow.{Access, Task, Flow}
+use Rattle.steps.specs.Operations.{effect}
+use Rattle.steps.specs.Machine.{Place, Machine, fresh}
+use Rattle.steps.specs.Step.{Setting, writes, waits, ofEach, Outcome, advanced, pastLast, writeDiffers, readsDiffer, Stepped, step}
+
+-- ---- the run
+
+-- the machine after some steps, and how many of them advanced and were held
+pub record Run : Type 0 where
+  pub machine : Machine
+  pub advanced : ℕ
+  pub held : ℕ
+
+-- one step more: "only the held count changes", or it advances
+unfoldable pub counted : Run → Outcome → Machine → Run
+counted before advanced after = record { machine = after; advanced = before .advanced + 1; held = before .held }
+counted before pastLast after = record { machine = after; advanced = before .advanced; held = before .held + 1 }
+counted before (writeDiffers c) after = record { machine = after; advanced = before .advanced; held = before .held + 1 }
+counted before (readsDiffer c) after = record { machine = after; advanced = before .advanced; held = before .held + 1 }
+
+-- a schedule's bytes "each name a worker"
+unfoldable pub runFrom : Setting → Run → List ℕ → Run
+runFrom s before [] = before
+runFrom s before (w ∷ schedule) =
+    runFrom s (counted before (step s (before .machine) w .outcome) (step s (before .machine) w .machine)) schedule
+
+-- the schedule's steps one after another from a fresh start
+abbrev pub run : Setting → List ℕ → List ℕ → Run
+run s cells schedule = runFrom s (record { machine = fresh (s .number 0) cells; advanced = 0; held = 0 }) schedule
+
+-- tasks are numbered "from 1 in list order"
+abbrev pub settingOf : Flow → Setting
+settingOf flow = record { tasks = flow .tasks; number = λ t. t; does = effect }
+
+-- ---- what is told of a run
+
+-- "A task is done once its last operation has been made, or, with no operations, its last wait has passed": the own steps after
+-- which it is
+abbrev pub doneAfter : Task → ℕ
+doneAfter task = length (ofEach waits (task .accesses)) + length (task .operations)
+
+-- the task at an index is done where its owner has gone past it, or is at it and has made those steps
+abbrev pub isDone : Task → ℕ → Place → Bool
+isDone task index owner = ltb index (owner .passed) || eqb index (owner .passed) && leb (doneAfter task) (owner .made)
+
+-- the done tasks among those from an index on
+unfoldable pub doneFrom : (ℕ → Place) → ℕ → List Task → ℕ
+doneFrom places index [] = 0
+doneFrom places index (task ∷ tasks) = cond (isDone task index (places (task .owner))) 1 0 + doneFrom places (index + 1) tasks
+
+abbrev pub doneTasks : List Task → Machine → ℕ
+doneTasks tasks m = doneFrom (m .places) 0 tasks
+
+-- "Finished means all workers are past the last task"
+unfoldable pub finished : ℕ → List Task → Machine → Bool
+finished workers tasks m = all (λ w. leb (length tasks) (m .places w .passed)) (each workers (λ w. w))
+
+-- ---- the total from the flow alone
+
+-- "2 for each read, 4 for each write"
+unfoldable pub accessSteps : List Access → ℕ
+accessSteps [] = 0
+accessSteps (access ∷ accesses) = cond (writes access) 4 2 + accessSteps accesses
+
+-- "the sum over tasks of 2 for each read, 4 for each write, 1 for each operation, and workers less 1"
+unfoldable pub totalOf : ℕ → List Task → ℕ
+totalOf workers [] = 0
+totalOf workers (task ∷ tasks) =
+    accessSteps (task .accesses) + length (task .operations) + (workers - 1) + totalOf workers tasks
+
+abbrev pub total : Flow → ℕ
+total flow = totalOf (flow .workers) (flow .tasks)
