@@ -6,8 +6,18 @@ ghost use mathlib.Core.List.{List, []};
 ghost use Prim.Native.Nat.{ℕ, _+_, _*_, _≤_, _<_};
 ghost use lib.ListN.{length, getD, replicate};
 ghost use Rattle.layout.specs.Lists.{each, all};
+ghost use Rattle.layout.specs.File.{rowStart};
 ghost use Rattle.layout.specs.Row.{accessAt, taskOf, ownerSound, countsSound, accessInRange, accessesSound, namedOnce, operationSound, operationsSound, modesSound, rowRefusal};
 ghost use Rattle.row.specs.Table.{Table, keepsTable};
+
+// Where a task's row stands in a file.
+pub fn start(task: u32) -> usize
+    requires { ⌜ (1 ≤ task) × (task ≤ 200) ⌝ }
+    ensures { λ r. ⌜ r ≡ rowStart task ⌝ }
+{
+    let before = task - 1;
+    octets::offset(512 * (before / 10) + 16 + 48 * (before % 10))
+}
 
 // 6: the owner is below workers.
 fn owner_sound(row: &[u8], workers: u32) -> bool

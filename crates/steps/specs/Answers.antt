@@ -60,7 +60,8 @@ toldOf met flow after =
       advanced = told met (after .advanced);
       held = told met (after .held);
       done = told met (doneTasks (flow .tasks) (after .machine));
-      finished = told met (cond (finished (flow .workers) (flow .tasks) (after .machine)) 1 0) }
+      finished = told met (cond (finished (flow .workers) (flow .tasks) (after .machine)) 1 0);
+    }
 
 unfoldable pub runTold : List ℕ → List ℕ → List ℕ → Told
 runTold file cells schedule = toldOf (runAnswer file cells schedule) (flowOf file) (ran file cells schedule)

@@ -1,0 +1,3 @@
+-- What the stepped run's arrays and outcomes stand for.
+pub mod Arrays
+pub mod Outcomes

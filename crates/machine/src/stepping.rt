@@ -1,0 +1,133 @@
+// One step of a named worker: whether it is held, what it changes, and its next place.
+use crate::Outcome;
+use crate::Place;
+use crate::Row;
+use crate::counters::is_write;
+use crate::counters::note;
+use crate::counters::register;
+use crate::effect::operate;
+use crate::place::next;
+ghost use mathlib.Core.Path.{_≡_};
+ghost use mathlib.Core.List.{List, []};
+ghost use Prim.Native.Nat.{ℕ, _+_, _<_, _≤_};
+ghost use lib.ListN.{length, getD};
+ghost use Rattle.layout.specs.Row.{accessAt};
+ghost use Rattle.steps.specs.Operations.{effect};
+ghost use Rattle.steps.specs.Step.{outcome, change as changed};
+ghost use Rattle.machine.specs.Arrays.{arrays, machineOf, passedAt, stageAt, indexAt, tryAt, Stands, Shape, RowFits, ReadsAtMost, Sound, OwnStep, StepDone, tasksIn};
+ghost use Rattle.machine.specs.Outcomes.{outcomeOf};
+
+// Whether the own step at a stage and an index is held, and why.
+fn held(row: &[u8], w: usize, stage: u32, index: u32, shared: &Row, private: &[Row; 8]) -> Outcome
+    requires { ⌜ (length (now row) ≡ 48) × (w < 8) ⌝ }
+    requires { ⌜ (stage < 2 → (index < 4) × (accessAt (now row) index .cell < 32)) ⌝ }
+    ensures { λ r. ⌜ outcomeOf r ≡ outcome (machineOf [] (arrays [] (now (shared .entry)) (now («private» .entry)) [])) w (tryAt (now (row .entry)) stage index) ⌝ }
+{
+    if 2 <= stage {
+        return Outcome::Advanced;
+    }
+    let at = octets::offset(index);
+    let cell = octets::index(row[4 + 2 * at]);
+    if stage == 0 {
+        if private[w][cell][0] == shared[cell][0] {
+            return Outcome::Advanced;
+        }
+        return Outcome::WriteDiffers(octets::wide(row[4 + 2 * at]));
+    }
+    if private[w][cell][1] == shared[cell][1] {
+        return Outcome::Advanced;
+    }
+    Outcome::ReadsDiffer(octets::wide(row[4 + 2 * at]))
+}
+
+// What an own step changes but for the place.
+fn change(
+    row: &[u8],
+    w: usize,
+    number: u32,
+    stage: u32,
+    index: u32,
+    cells: &mut [u32],
+    shared: &mut Row,
+    private: &mut [Row; 8],
+)
+    requires { ⌜ RowFits (now row) (length (now cells)) × Stands (now row) stage index × (w < 8) ⌝ }
+    requires { ⌜ Shape (now shared) (now «private») × ReadsAtMost 300000 (machineOf [] (arrays [] (now shared) (now «private») [])) ⌝ }
+    ensures { λ _. ⌜ Shape (now (shared .exit)) (now («private» .exit)) × (machineOf [] (arrays (now (cells .exit)) (now (shared .exit)) (now («private» .exit)) []) ≡ changed effect number (machineOf [] (arrays (now (cells .entry)) (now (shared .entry)) (now («private» .entry)) [])) w (tryAt (now (row .entry)) stage index)) ⌝ }
+{
+    if stage < 2 {
+        return;
+    }
+    let at = octets::offset(index);
+    if stage == 2 {
+        operate(row, at, cells);
+        return;
+    }
+    let cell = octets::index(row[4 + 2 * at]);
+    let last = shared[cell][0];
+    let reads = shared[cell][1];
+    if stage == 4 {
+        shared[cell] = [number, reads];
+        note(private, w, cell, true, number);
+        return;
+    }
+    if is_write(row, at) {
+        shared[cell] = [last, 0];
+        return;
+    }
+    shared[cell] = [last, reads + 1];
+    note(private, w, cell, false, number);
+}
+
+// The owner's next own step.
+fn own_step(
+    row: &[u8],
+    w: usize,
+    cells: &mut [u32],
+    shared: &mut Row,
+    private: &mut [Row; 8],
+    places: &mut [Place; 8],
+) -> Outcome
+    requires { ⌜ RowFits (now row) (length (now cells)) × (w < 8) × (length (now places) ≡ 8) × (getD (getD (now places) w []) 0 0 < 200) ⌝ }
+    requires { ⌜ Stands (now row) (getD (getD (now places) w []) 1 0) (getD (getD (now places) w []) 2 0) ⌝ }
+    requires { ⌜ Shape (now shared) (now «private») × ReadsAtMost 300000 (machineOf [] (arrays [] (now shared) (now «private») [])) ⌝ }
+    ensures { λ r. ⌜ OwnStep (now (row .entry)) w (arrays (now (cells .entry)) (now (shared .entry)) (now («private» .entry)) (now (places .entry))) (outcomeOf r) (arrays (now (cells .exit)) (now (shared .exit)) (now («private» .exit)) (now (places .exit))) ⌝ }
+{
+    let passed = places[w][0];
+    let stage = places[w][1];
+    let index = places[w][2];
+    let why = held(row, w, stage, index, shared, private);
+    if let Outcome::Advanced = why {
+        change(row, w, passed + 1, stage, index, cells, shared, private);
+        places[w] = next(row, passed, stage, index);
+    }
+    why
+}
+
+// One step of a named worker.
+pub fn step(
+    file: &[u8],
+    tasks: u32,
+    w: usize,
+    cells: &mut [u32],
+    shared: &mut Row,
+    private: &mut [Row; 8],
+    places: &mut [Place; 8],
+) -> Outcome
+    requires { ⌜ Sound (now file) tasks (arrays (now cells) (now shared) (now «private») (now places)) × (w < 8) ⌝ }
+    requires { ⌜ ReadsAtMost 300000 (machineOf (tasksIn (now file) tasks) (arrays (now cells) (now shared) (now «private») (now places))) ⌝ }
+    ensures { λ r. ⌜ StepDone (now (file .entry)) tasks w (arrays (now (cells .entry)) (now (shared .entry)) (now («private» .entry)) (now (places .entry))) (outcomeOf r) (arrays (now (cells .exit)) (now (shared .exit)) (now («private» .exit)) (now (places .exit))) ⌝ }
+{
+    let passed = places[w][0];
+    if tasks <= passed {
+        return Outcome::PastLast;
+    }
+    let from = row::start(passed + 1);
+    let row = &file[from..from + 48];
+    if octets::index(row[0]) != w {
+        register(row, w, passed + 1, private);
+        places[w] = [passed + 1, 0, 0];
+        return Outcome::Advanced;
+    }
+    own_step(row, w, cells, shared, private, places)
+}
