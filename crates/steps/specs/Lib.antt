@@ -4,5 +4,6 @@ pub mod Plain
 pub mod Machine
 pub mod Step
 pub mod Run
+pub mod History
 pub mod Answers
 pub mod Bench

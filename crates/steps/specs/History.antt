@@ -1,0 +1,41 @@
+-- The history of a run: the operations in the order in which the schedule made them, each as its task and its index in the task.
+-- It is read off the steps: a step makes an operation where the worker's next own step is one.
+use mathlib.Core.Bool.{cond}
+use mathlib.Core.List.{List, [], _∷_, _++_}
+use Prim.Native.Nat.{ℕ, _+_, _-_}
+use lib.ListN.{length, drop}
+use lib.Dec.{eqb}
+use Rattle.layout.specs.Flow.{Task}
+use Rattle.steps.specs.Machine.{Place, Machine}
+use Rattle.steps.specs.Step.{Setting, Try, waitWrite, waitReads, operate, endRead, zeroReads, postWrite, waits, ofEach, ownSteps, Stepped, step}
+
+-- an operation that was made: the task, from 1 in list order, and the operation's index in it, from 0
+pub record Made : Type 0 where
+  pub task : ℕ
+  pub index : ℕ
+
+abbrev pub made : ℕ → ℕ → Made
+made task index = record { task = task; index = index }
+
+-- the operation among a task's own steps from a place on, if one is next
+unfoldable pub nextOperation : Task → Place → List Try → List Made
+nextOperation task at [] = []
+nextOperation task at (waitWrite c ∷ later) = []
+nextOperation task at (waitReads c ∷ later) = []
+nextOperation task at (operate o ∷ later) = made (at .passed + 1) (at .made - length (ofEach waits (task .accesses))) ∷ []
+nextOperation task at (endRead c ∷ later) = []
+nextOperation task at (zeroReads c ∷ later) = []
+nextOperation task at (postWrite c ∷ later) = []
+
+unfoldable pub madeFrom : Machine → ℕ → List Task → List Made
+madeFrom m w [] = []
+madeFrom m w (task ∷ later) =
+    cond (eqb (task .owner) w) (nextOperation task (m .places w) (drop (m .places w .made) (ownSteps task))) []
+
+-- the operation that a named worker's step makes, if it makes one
+abbrev pub madeBy : Setting → Machine → ℕ → List Made
+madeBy s m w = madeFrom m w (drop (m .places w .passed) (s .tasks))
+
+unfoldable pub historyFrom : Setting → Machine → List ℕ → List Made
+historyFrom s m [] = []
+historyFrom s m (w ∷ schedule) = madeBy s m w ++ historyFrom s (step s m w .machine) schedule
