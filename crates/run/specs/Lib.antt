@@ -1,0 +1,2 @@
+-- What the public calls that run a flow promise.
+pub mod Promises

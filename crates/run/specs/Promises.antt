@@ -1,0 +1,35 @@
+-- What the plain run and the stepped run promise: the answer, and every lent cell, refusals included.
+use mathlib.Core.Path.{_≡_}
+use mathlib.Core.List.{List}
+use Prim.Native.Nat.{ℕ, _≤_}
+use Rattle.layout.specs.Refusal as Rules
+use Rattle.layout.specs.File.{flowOf}
+use Rattle.steps.specs.Run.{total}
+use Rattle.steps.specs.Answers.{Told, plainAnswer, plainCells, runTold, runCells}
+use Rattle.run.specs.declared.PlainAnswer.{PlainAnswer}
+use Rattle.run.specs.declared.RunAnswer.{RunAnswer}
+
+abbrev pub plainIs : Rules.Answer → PlainAnswer
+plainIs met = record { number = met .number; place = met .place }
+
+abbrev pub runIs : Told → RunAnswer
+runIs told =
+    record {
+      number = told .number;
+      place = told .place;
+      advanced = told .advanced;
+      held = told .held;
+      done = told .done;
+      finished = told .finished }
+
+abbrev pub runRefused : Rules.Answer → RunAnswer
+runRefused met = record { number = met .number; place = met .place; advanced = 0; held = 0; done = 0; finished = 0 }
+
+pub record PlainPromise (file cells : List ℕ) (r : PlainAnswer) (after : List ℕ) : Type 0 where
+  pub answer : r ≡ plainIs (plainAnswer file cells)
+  pub cells-after : after ≡ plainCells file cells
+
+pub record RunPromise (file cells schedule : List ℕ) (r : RunAnswer) (after : List ℕ) : Type 0 where
+  pub answer : r ≡ runIs (runTold file cells schedule)
+  pub cells-after : after ≡ runCells file cells schedule
+  pub bounded : r .advanced ≤ total (flowOf file)

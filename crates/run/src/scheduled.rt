@@ -1,0 +1,82 @@
+// The stepped run: the schedule's bytes, one after another, each name a worker that takes a step.
+use crate::RunAnswer;
+use crate::telling::all_past;
+use crate::telling::done_tasks;
+use file::Answer;
+use machine::Outcome;
+use machine::stepping::step;
+ghost use mathlib.Core.Path.{_≡_};
+ghost use Prim.Native.Nat.{ℕ, _≤_, _<_};
+ghost use lib.ListN.{length, getD};
+ghost use Rattle.run.specs.Promises.{RunPromise};
+
+// 14: the first byte of a schedule that is not below workers.
+fn schedule_met(schedule: &[u8], workers: u32) -> Answer
+    requires { ⌜ length (now schedule) ≤ 65536 ⌝ }
+{
+    let mut i: u32 = 0;
+    while octets::offset(i) < schedule.len() {
+        if workers <= octets::wide(schedule[octets::offset(i)]) {
+            return Answer {
+                number: 14,
+                place: i,
+            };
+        }
+        i += 1;
+    }
+    Answer {
+        number: 0,
+        place: 0,
+    }
+}
+
+// The steps of a schedule, from a fresh start.
+fn walk(file: &[u8], tasks: u32, workers: u32, cells: &mut [u32], schedule: &[u8]) -> RunAnswer {
+    let mut shared = [[0u32; 2]; 32];
+    let mut private = [[[0u32; 2]; 32]; 8];
+    let mut places = [[0u32; 3]; 8];
+    let mut advanced: u32 = 0;
+    let mut held: u32 = 0;
+    let mut i = 0;
+    while i < schedule.len() {
+        let w = octets::index(schedule[i]);
+        let why = step(file, tasks, w, cells, &mut shared, &mut private, &mut places);
+        if let Outcome::Advanced = why {
+            advanced += 1;
+        } else {
+            held += 1;
+        }
+        i += 1;
+    }
+    let done = done_tasks(file, tasks, cells.len(), &places);
+    let finished = all_past(workers, tasks, &places);
+    RunAnswer {
+        number: 0,
+        place: 0,
+        advanced,
+        held,
+        done,
+        finished,
+    }
+}
+
+// Runs a flow under a schedule from lent cells: 0 with the counts and the cells after the last byte, or a refusal that changes none.
+pub fn run(file: &[u8], cells: &mut [u32], schedule: &[u8]) -> RunAnswer
+    ensures { λ r. ⌜ RunPromise (now (file .entry)) (now (cells .entry)) (now (schedule .entry)) r (now (cells .exit)) ⌝ }
+{
+    let met = file::check(file);
+    if met.number != 0 {
+        return RunAnswer::refused(met.number, met.place);
+    }
+    if cells.len() != octets::offset(met.cells) {
+        return RunAnswer::refused(12, 0);
+    }
+    if 65536 < schedule.len() {
+        return RunAnswer::refused(13, 0);
+    }
+    let named = schedule_met(schedule, met.workers);
+    if named.number != 0 {
+        return RunAnswer::refused(named.number, named.place);
+    }
+    walk(file, met.tasks, met.workers, cells, schedule)
+}

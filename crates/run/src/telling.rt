@@ -1,0 +1,42 @@
+// What is told of a run once its schedule is over: the done tasks, and whether all workers are past the last.
+use machine::Place;
+ghost use mathlib.Core.Path.{_≡_};
+ghost use mathlib.Core.Bool.{cond};
+ghost use mathlib.Core.List.{[]};
+ghost use Prim.Native.Nat.{ℕ, _≤_};
+ghost use lib.ListN.{length};
+ghost use Rattle.steps.specs.Run.{doneTasks, finished};
+ghost use Rattle.machine.specs.Arrays.{arrays, machineOf, Ready, Standing, tasksIn};
+
+// How many tasks are done: the owner is past the task, or at it and past its last operation.
+pub fn done_tasks(file: &[u8], tasks: u32, cells: usize, places: &[Place; 8]) -> u32
+    requires { ⌜ Ready (now file) tasks cells × Standing (now file) tasks (now places) × (length (now places) ≡ 8) ⌝ }
+    ensures { λ r. ⌜ r ≡ doneTasks (tasksIn (now (file .entry)) tasks) (machineOf (tasksIn (now (file .entry)) tasks) (arrays [] [] [] (now (places .entry)))) ⌝ }
+{
+    let mut done: u32 = 0;
+    let mut index: u32 = 0;
+    while index < tasks {
+        let owner = octets::index(file[row::start(index + 1)]);
+        let passed = places[owner][0];
+        let stage = places[owner][1];
+        if (index < passed) | ((index == passed) & (3 <= stage)) {
+            done += 1;
+        }
+        index += 1;
+    }
+    done
+}
+
+// 1 where all workers are past the last task.
+pub fn all_past(workers: u32, tasks: u32, places: &[Place; 8]) -> u32
+    requires { ⌜ workers ≤ 8 ⌝ }
+{
+    let mut w = 0;
+    while w < octets::offset(workers) {
+        if places[w][0] < tasks {
+            return 0;
+        }
+        w += 1;
+    }
+    1
+}
