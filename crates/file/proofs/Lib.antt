@@ -1,0 +1,3 @@
+-- Laws that the proofs of the calls cite, and that each call's contract allows one outcome only.
+pub mod Whole
+pub mod Places
