@@ -20,7 +20,7 @@ offset-requires c κs = search needs
 
 -- src/writing.rt:26:9
 returns-2 : tie.Need-returns-2
-returns-2 c = too-many 48 9600 _ (search needs)
+returns-2 c = too-many 48 9600 (c .before .before .before .args .bytes) (search needs)
 
 -- src/writing.rt:29:9
 returns-3 : tie.Need-returns-3
@@ -32,7 +32,7 @@ cast-result c = search needs
 
 -- src/writing.rt:19:1
 returns-4 : tie.Need-returns-4
-returns-4 c = counted 48 9600 _ (c .before .before .before .if1 .left) (search needs) (c .if3 .left)
+returns-4 c = counted 48 9600 (c .before .before .before .before .args .bytes) (c .before .before .before .if1 .left) (search needs) (c .if3 .left)
 
 pub whole-rows-spec : {M : Type 1} → statement M
 whole-rows-spec =
