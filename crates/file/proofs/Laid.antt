@@ -56,6 +56,11 @@ module _ (size : ℕ) (f : ℕ → List ℕ) (g : ℕ → ℕ) (lent : List ℕ)
       ∙ sym (append-assoc done piece (drop (size * (n + 1)) lent))
       ∙ ap (λ (t : List ℕ). t ++ drop (size * (n + 1)) lent) (ap (λ (t : List ℕ). done ++ t) here ∙ sym (joined-more f g n))
 
+  -- what is left of the lent bytes begins where the pieces end
+  pub laid-is : (n : ℕ) → ((i : ℕ) → i < n → length (f (g i)) ≡ size)
+      → laid size f g lent n ≡ joined f (each n g) ++ drop (length (joined f (each n g))) lent
+  laid-is n sized = ap (λ (k : ℕ). joined f (each n g) ++ drop k lent) (sym (joined-length size n f g sized))
+
 -- a piece copied from one place to another is what stood there
 pub copied : (size from to place : ℕ) (bytes lent piece : List ℕ) → from + size ≤ length bytes
     → piece

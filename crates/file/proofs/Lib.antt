@@ -3,4 +3,5 @@ pub mod Whole
 pub mod Places
 pub mod Laid
 pub mod Order
+pub mod Outcomes
 pub mod Unique

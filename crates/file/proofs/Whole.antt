@@ -38,6 +38,7 @@ module _ (size most bytes : ℕ) where
 
   pub record Sound (count : ℕ) : Type 0 where
     pub sound : soundIn size most bytes ≡ true
+    pub some : 1 ≤ count
     pub fits : bytes ≤ most
     pub is-whole : bytes ≡ size * count
     pub count-is : count ≡ bytes / size
@@ -61,6 +62,7 @@ module _ (size most bytes : ℕ) where
           let tests = simp and-iff at s in
           record {
             sound = s;
+            some = omega arith;
             fits = omega (arith, leb-true);
             is-whole =
                 omega (arith, eqb-true, div-add-mod' bytes size, mul-comm (bytes / size) size, ap (λ (k : ℕ). size * k) q);

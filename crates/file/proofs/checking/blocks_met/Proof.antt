@@ -1,3 +1,4 @@
+-- `checking::blocks_met` meets its contract. The invariant: no block passed has refused, so the whole answer is that of the blocks left.
 use mathlib.Core.Path.{_≡_, ap, _∙_}
 use mathlib.Core.List.{List}
 use Prim.Native.Nat.{ℕ, _+_, _-_, _*_, _≤_}
@@ -10,10 +11,6 @@ use Rattle.file.specs.Answers.{answerOf}
 use Rattle.file.proofs.Places.{begun, passed, refused, done}
 use Rattle.file.proofs.checking.blocks_met.Statement.{statement}
 use Rattle.file.proofs.checking.blocks_met.Tie as tie
-use Rattle.file.proofs.checking.blocks_met.Reads as reads
-use Rattle.file.proofs.checking.blocks_met.Lts as lts
-use Rattle.block.proofs.refusal.Reads as refusal-reads
-use Rattle.octets.proofs.offset.Reads as offset-reads
 
 -- the first of 2 to 5 that the block at an index breaks
 abbrev number : List ℕ → ℕ → Sizes → ℕ → ℕ
@@ -28,56 +25,44 @@ Inv-loop file blocks first index₀ index =
 abbrev μ-loop : tie.MeasureT-loop
 μ-loop file blocks first index₀ index = blocks - index
 
--- src/checking.rt:49:5
 loop-holds : tie.Need-loop-holds Inv-loop μ-loop
 loop-holds c =
     let a = c .before .args in
     (search needs, begun (number (a .file .now) (a .blocks) (a .first)) 0 (a .blocks) (a .blocks) (search needs))
 
--- src/checking.rt:50:35
 mul-offset : tie.Need-mul-offset Inv-loop μ-loop
 mul-offset c = search needs
 
--- src/checking.rt:50:13
 offset-requires : tie.Need-offset-requires Inv-loop μ-loop
 offset-requires c κs = search needs
 
--- src/checking.rt:51:49
 add-refusal : tie.Need-add-refusal Inv-loop μ-loop
 add-refusal c = search needs
 
--- src/checking.rt:51:37
 sub-refusal : tie.Need-sub-refusal Inv-loop μ-loop
 sub-refusal c = search needs
 
--- src/checking.rt:51:37
 part-refusal-start : tie.Need-part-refusal-start Inv-loop μ-loop
 part-refusal-start c = search needs
 
--- src/checking.rt:51:37
 part-refusal-end : tie.Need-part-refusal-end Inv-loop μ-loop
 part-refusal-end c = search needs
 
--- src/checking.rt:51:13
 refusal-requires : tie.Need-refusal-requires Inv-loop μ-loop
 refusal-requires c κs = search needs
 
--- src/checking.rt:53:13
 returns : tie.Need-returns Inv-loop μ-loop
 returns c =
     ap answerOf
     (refused _ _ _ _ (c .before .before .before .before .before .loop .inv .1) _ (c .before .before .before .before .loop-test .taken)
     (rw (c .before .before .before .offset .ensures) at (c .before .refusal .ensures)) (c .if1 .taken))
 
--- src/checking.rt:58:9
 add-index : tie.Need-add-index Inv-loop μ-loop
 add-index c = search needs
 
--- src/checking.rt:49:5
 loop-less : tie.Need-loop-less Inv-loop μ-loop
 loop-less c = search needs
 
--- src/checking.rt:49:5
 loop-again : tie.Need-loop-again Inv-loop μ-loop
 loop-again c = (
   search needs,
@@ -85,7 +70,6 @@ loop-again c = (
   (rw (c .before .before .before .offset .ensures) at (c .before .refusal .ensures)) (c .if1 .left),
 )
 
--- src/checking.rt:44:1
 returns-2 : tie.Need-returns-2 Inv-loop μ-loop
 returns-2 c = ap answerOf (done _ _ _ _ (c .before .loop .inv .1) (c .loop-test .left))
 

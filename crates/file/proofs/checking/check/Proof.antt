@@ -1,31 +1,34 @@
+-- `checking::check` meets its contract: a refusal is passed on with zero sizes, and an accepted file tells what block 0 states.
+use mathlib.Core.Path.{_≡_, sym, ap, _∙_}
+use Rattle.layout.specs.Refusal.{refusal}
+use Rattle.layout.specs.File.{fileAnswer}
+use Rattle.file.specs.declared.Answer.{Answer}
+use Rattle.file.proofs.Outcomes.{check-refused, some-block, check-done}
 use borrow.Author.Needs.{needs}
 use Rattle.file.proofs.checking.check.Statement.{statement}
 use Rattle.file.proofs.checking.check.Tie as tie
-use Rattle.file.proofs.checking.check.Reads as reads
-use Rattle.file.proofs.checking.check.Lts as lts
-use Rattle.block.proofs.sizes_of.Reads as sizes-of-reads
-use Rattle.file.proofs.CheckAnswer.refused.Reads as refused-reads
-use Rattle.file.proofs.checking.file_met.Reads as file-met-reads
 
--- src/checking.rt:112:9
 file-met-requires : tie.Need-file-met-requires
 file-met-requires c κs = search needs
 
--- src/checking.rt:114:9
 refused-requires : tie.Need-refused-requires
 refused-requires c κs = search needs
 
--- src/checking.rt:114:9
 returns : tie.Need-returns
-returns c = ?
+returns c =
+    let met = c .before .before .before .file-met in
+    check-refused (refusal (met .result .number) (met .result .place)) (c .before .if1 .taken) _ _
+    (ap (λ (a : Answer). refusal (a .number) (a .place)) (met .ensures)) (c .refused .ensures)
 
--- src/checking.rt:116:9
+-- from here on, the file is accepted
+accepted : (c : tie.Else1) → fileAnswer (c .before .before .before .before .args .file .now) .number ≡ 0
+accepted c = sym (ap (λ (a : Answer). a .number) (c .before .before .file-met .ensures)) ∙ c .if1 .left
+
 sizes-of-requires : tie.Need-sizes-of-requires
-sizes-of-requires c κs = ?
+sizes-of-requires c κs = some-block _ (accepted c)
 
--- src/checking.rt:109:1
 returns-2 : tie.Need-returns-2
-returns-2 c = ?
+returns-2 c = check-done _ (accepted (c .before)) (c .sizes-of .result) (c .sizes-of .ensures .0)
 
 pub check-spec : {M : Type 1} → statement M
 check-spec =

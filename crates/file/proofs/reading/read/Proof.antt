@@ -1,52 +1,59 @@
+-- `reading::read` meets its contract: a refusal comes before any byte is written, and the rows of an accepted file are laid into the lent bytes.
+use mathlib.Core.Path.{_≡_}
+use native.Mathlib.Omega.{arith}
+use lib.ListN.{length}
+use Rattle.layout.specs.Refusal.{refusal}
+use Rattle.file.proofs.Outcomes.{read-refused, passed-on, rows-fit, read-short, read-done}
 use borrow.Author.Needs.{needs}
 use Rattle.file.proofs.reading.read.Statement.{statement}
 use Rattle.file.proofs.reading.read.Tie as tie
-use Rattle.file.proofs.reading.read.Reads as reads
-use Rattle.file.proofs.reading.read.Lts as lts
-use Rattle.file.proofs.ReadAnswer.refused.Reads as refused-reads
-use Rattle.file.proofs.checking.check.Reads as check-reads
-use Rattle.file.proofs.reading.copy_rows.Reads as copy-rows-reads
-use Rattle.octets.proofs.offset.Reads as offset-reads
 
--- src/reading.rt:32:9
 check-requires : tie.Need-check-requires
 check-requires c κs = search needs
 
--- src/reading.rt:34:9
 refused-requires : tie.Need-refused-requires
 refused-requires c κs = search needs
 
--- src/reading.rt:34:9
 returns : tie.Need-returns
-returns c = ?
+returns c =
+    let a = c .before .before .before .before .before .before .args in
+    let met = c .before .before .before .check in
+    read-refused (refusal (met .result .number) (met .result .place)) (c .before .if1 .taken) _ (a .rows .now) _
+    (passed-on (met .ensures) (length (a .rows .now)) (c .before .if1 .taken)) (c .refused .ensures)
 
--- src/reading.rt:36:17
 mul-bytes : tie.Need-mul-bytes
-mul-bytes c = ?
+mul-bytes c = omega (arith, rows-fit (c .before .before .before .check .ensures) (c .before .if1 .left))
 
--- src/reading.rt:37:21
 offset-requires : tie.Need-offset-requires
 offset-requires c κs = search needs
 
--- src/reading.rt:38:9
 refused-requires-2 : tie.Need-refused-requires-2
 refused-requires-2 c κs = search needs
 
--- src/reading.rt:38:9
 returns-2 : tie.Need-returns-2
-returns-2 c = ?
+returns-2 c =
+    let a = c .before .before .before .before .before .before .before .before .before .args in
+    read-refused (refusal 16 0) (omega arith) _ (a .rows .now) _
+    (read-short (c .before .before .before .before .before .before .check .ensures) (c .before .before .before .before .if1 .left)
+    (length (a .rows .now)) (omega arith))
+    (c .refused2 .ensures)
 
--- src/reading.rt:40:5
 copy-rows-requires : tie.Need-copy-rows-requires
-copy-rows-requires c κs = ?
+copy-rows-requires c κs =
+    let fit = rows-fit (c .before .before .before .before .before .before .check .ensures) (c .before .before .before .before .if1 .left) in
+    (fit .0, fit .1, search needs)
 
--- src/reading.rt:29:1
 same-length : tie.Need-same-length
 same-length c = search needs
 
--- src/reading.rt:29:1
 returns-3 : tie.Need-returns-3
-returns-3 c = ?
+returns-3 c =
+    read-done (c .before .before .before .before .before .before .before .before .before .check .ensures)
+    (c .before .before .before .before .before .before .before .if1 .left)
+    (c .before .before .before .before .before .before .before .before .before .before .before .before .args .rows .now)
+    (c .before .before .copy-rows .last .1 .0)
+    (search needs)
+    (c .before .before .copy-rows .ensures)
 
 pub read-spec : {M : Type 1} → statement M
 read-spec =

@@ -1,91 +1,123 @@
+-- `writing::write` meets its contract: a refusal comes before any byte is written, and the blocks of accepted rows are laid into the lent output.
+use mathlib.Core.Path.{_≡_, sym, ap, _∙_}
+use native.Mathlib.Omega.{arith}
+use lib.ListN.{length}
+use Rattle.layout.specs.Refusal.{refusal}
+use Rattle.flow.specs.Made.{statedBy}
+use Rattle.flow.proofs.Answers.{within-is, outside-is}
+use Rattle.file.proofs.Whole.{Sound, unsound, is-sound}
+use Rattle.file.proofs.Order.{rows-refused, sizes-refused}
+use Rattle.file.proofs.Outcomes.{write-refused, FlowMade, flow-fits, given-refused, write-short, write-done}
 use borrow.Author.Needs.{needs}
 use Rattle.file.proofs.writing.write.Statement.{statement}
 use Rattle.file.proofs.writing.write.Tie as tie
-use Rattle.file.proofs.writing.write.Reads as reads
-use Rattle.file.proofs.writing.write.Lts as lts
-use Rattle.file.proofs.WriteAnswer.refused.Reads as refused-reads
-use Rattle.file.proofs.writing.fill_blocks.Reads as fill-blocks-reads
-use Rattle.file.proofs.writing.given_met.Reads as given-met-reads
-use Rattle.file.proofs.writing.whole_rows.Reads as whole-rows-reads
-use Rattle.flow.proofs.Flow.new.Reads as new-reads
-use Rattle.flow.proofs.blocks_for.Reads as blocks-for-reads
-use Rattle.octets.proofs.offset.Reads as offset-reads
 
--- src/writing.rt:75:9
 whole-rows-requires : tie.Need-whole-rows-requires
 whole-rows-requires c κs = search needs
 
--- src/writing.rt:77:9
 refused-requires : tie.Need-refused-requires
 refused-requires c κs = search needs
 
--- src/writing.rt:77:9
 returns : tie.Need-returns
-returns c = ?
+returns c =
+    let a = c .before .before .before .before .before .args in
+    let count = c .before .before .whole-rows in
+    write-refused (refusal 15 0) (omega arith) (a .rows .now) (a .workers) (a .cells) (a .out .now) _
+    (rows-refused (a .rows .now) (a .workers) (a .cells) (length (a .out .now))
+    (unsound 48 9600 (length (a .rows .now)) (count .result) (count .ensures) (c .before .if1 .taken)))
+    (c .refused .ensures)
 
--- src/writing.rt:79:30
+-- from here on, the rows are whole rows
+whole : (c : tie.Else1) → Sound 48 9600 (length (c .before .before .before .before .args .rows .now)) (c .before .whole-rows .result)
+whole c =
+    is-sound 48 9600 (length (c .before .before .before .before .args .rows .now)) (c .before .whole-rows .result) (c .before .whole-rows .ensures)
+    (c .if1 .left)
+
 new-requires : tie.Need-new-requires
 new-requires c κs = search needs
 
--- src/writing.rt:79:22
 enum-known-flow : tie.Need-enum-known-flow
 enum-known-flow c = search needs
 
--- src/writing.rt:80:9
 enum-told : tie.Need-enum-told
 enum-told c = search needs
 
--- src/writing.rt:80:9
 refused-requires-2 : tie.Need-refused-requires-2
 refused-requires-2 c κs = search needs
 
--- src/writing.rt:80:9
 returns-2 : tie.Need-returns-2
-returns-2 c = ?
+returns-2 c =
+    let a = c .before .before .before .before .before .before .before .before .args in
+    let tasks = c .before .before .before .before .before .whole-rows .result in
+    write-refused (refusal 4 0) (omega arith) (a .rows .now) (a .workers) (a .cells) (a .out .now) _
+    (sizes-refused (a .rows .now) tasks (a .workers) (a .cells) (whole (c .before .before .before .before)) (length (a .out .now))
+    (outside-is tasks (a .workers) (a .cells) (ap statedBy (sym (c .before .enum-told .given .1)) ∙ c .before .before .before .new .ensures)))
+    (c .refused2 .ensures)
 
--- src/writing.rt:82:9
+-- and from here on, there is a flow of the sizes asked for
+known : (c : tie.After-flow)
+    → FlowMade (c .before .before .before .before .before .before .before .args .rows .now) (c .before .before .before .before .whole-rows .result)
+    (c .before .before .before .before .before .before .before .args .workers) (c .before .before .before .before .before .before .before .args .cells)
+    (c .flow .given .0 .0)
+known c =
+    record {
+      whole = whole (c .before .before .before);
+      made = within-is _ _ _ _ (ap statedBy (sym (c .flow .given .1)) ∙ c .before .before .new .ensures);
+    }
+
 given-met-requires : tie.Need-given-met-requires
-given-met-requires c κs = ?
+given-met-requires c κs = omega (arith, flow-fits (known (c .before)))
 
--- src/writing.rt:84:9
 refused-requires-3 : tie.Need-refused-requires-3
 refused-requires-3 c κs = search needs
 
--- src/writing.rt:84:9
 returns-3 : tie.Need-returns-3
-returns-3 c = ?
+returns-3 c =
+    let a = c .before .before .before .before .before .before .before .before .before .before .before .before .args in
+    let met = c .before .before .before .given-met in
+    write-refused (refusal (met .result .number) (met .result .place)) (c .before .if2 .taken) (a .rows .now) (a .workers) (a .cells) (a .out .now) _
+    (given-refused (known (c .before .before .before .before .before)) (met .ensures) (length (a .out .now)) (c .before .if2 .taken))
+    (c .refused3 .ensures)
 
--- src/writing.rt:86:23
 blocks-for-requires : tie.Need-blocks-for-requires
-blocks-for-requires c κs = ?
+blocks-for-requires c κs = omega (arith, flow-fits (known (c .before .before .before .before)))
 
--- src/writing.rt:86:17
 mul-bytes : tie.Need-mul-bytes
-mul-bytes c = ?
+mul-bytes c = omega (arith, flow-fits (known (c .before .before .before .before .before)))
 
--- src/writing.rt:87:20
 offset-requires : tie.Need-offset-requires
 offset-requires c κs = search needs
 
--- src/writing.rt:88:9
 refused-requires-4 : tie.Need-refused-requires-4
 refused-requires-4 c κs = search needs
 
--- src/writing.rt:88:9
 returns-4 : tie.Need-returns-4
-returns-4 c = ?
+returns-4 c =
+    let a = c .before .before .before .before .before .before .before .before .before .before .before .before .before .before .before .args in
+    write-refused (refusal 16 0) (omega arith) (a .rows .now) (a .workers) (a .cells) (a .out .now) _
+    (write-short (known (c .before .before .before .before .before .before .before .before)) (c .before .before .before .before .before .before .given-met .ensures)
+    (c .before .before .before .before .if2 .left) (length (a .out .now)) (omega arith))
+    (c .refused4 .ensures)
 
--- src/writing.rt:90:5
 fill-blocks-requires : tie.Need-fill-blocks-requires
-fill-blocks-requires c κs = ?
+fill-blocks-requires c κs =
+    let fits = flow-fits (known (c .before .before .before .before .before .before .before .before)) in
+    (fits .is-whole, fits .tasks-fit, fits .workers-fit, fits .cells-fit, omega arith)
 
--- src/writing.rt:72:1
 same-length : tie.Need-same-length
 same-length c = search needs
 
--- src/writing.rt:72:1
 returns-5 : tie.Need-returns-5
-returns-5 c = ?
+returns-5 c =
+    write-done (known (c .before .before .before .before .before .before .before .before .before .before .before))
+    (c .before .before .before .before .before .before .before .before .before .given-met .ensures)
+    (c .before .before .before .before .before .before .before .if2 .left)
+    (c .before .before .before .before .before .before .before .before .before .before .before .before .before .before .before .before .before .before .args .out .now)
+    (c .before .before .fill-blocks .last .1 .0)
+    (c .before .before .before .before .before .before .blocks-for .result)
+    (c .before .before .before .before .before .before .blocks-for .ensures)
+    (search needs)
+    (c .before .before .fill-blocks .ensures)
 
 pub write-spec : {M : Type 1} → statement M
 write-spec =
