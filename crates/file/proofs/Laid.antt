@@ -19,7 +19,8 @@ use Rattle.roundtrip.proofs.BlockWritten.{block-length}
 joined-append : (f : ℕ → List ℕ) (xs ys : List ℕ) → joined f (xs ++ ys) ≡ joined f xs ++ joined f ys
 unfolding joined
 joined-append f [] ys = refl
-joined-append f (x ∷ xs) ys = ap (λ (t : List ℕ). f x ++ t) (joined-append f xs ys) ∙ sym (append-assoc (f x) (joined f xs) (joined f ys))
+joined-append f (x ∷ xs) ys =
+    ap (λ (t : List ℕ). f x ++ t) (joined-append f xs ys) ∙ sym (append-assoc (f x) (joined f xs) (joined f ys))
 
 joined-more : (f : ℕ → List ℕ) (g : ℕ → ℕ) (n : ℕ) → joined f (each (n + 1) g) ≡ joined f (each n g) ++ f (g n)
 unfolding joined

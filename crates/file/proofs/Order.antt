@@ -4,7 +4,7 @@
 use mathlib.Core.Path.{_≡_, refl, sym, ap, _∙_}
 use mathlib.Core.Bool.{Bool, true, false, cond}
 use mathlib.Core.List.{List}
-use Prim.Native.Nat.{ℕ, _+_, _*_, _≤_, _<_}
+use Prim.Native.Nat.{ℕ, _*_, _≤_, _<_}
 use native.Mathlib.Nat.{zero-add}
 use borrow.Author.Tests.{ne-eqb, le-leb, lt-leb}
 use lib.ListN.{length}
@@ -76,8 +76,8 @@ module _ {file : List ℕ} {blocks : ℕ} {sizes : Sizes} {met : Answer} (m : Bl
   unfolding fileAnswer
   parts =
       (λ i.
-          orElse (fromBlocks file (m .whole .count-is i) (m .stated .0 i) (m .stated .1 i) (m .stated .2 i))
-          (fromRows file (m .stated .0 i) (m .stated .1 i) (m .stated .2 i)))
+      orElse (fromBlocks file (m .whole .count-is i) (m .stated .0 i) (m .stated .1 i) (m .stated .2 i))
+      (fromRows file (m .stated .0 i) (m .stated .1 i) (m .stated .2 i)))
       ∙ sym (rule-passed (lengthSound (length file)) 1 _ (m .whole .sound))
 
   pub block-refused : (met .number ≡ 0 → ⊥) → met ≡ answerOf (fileAnswer file)
@@ -93,7 +93,8 @@ module _ {file : List ℕ} {blocks : ℕ} {sizes : Sizes} {met : Answer} (m : Bl
       (rw zero-add at (none-at _ 0 blocks (same-number ∙ none) 0 (m .whole .some)))
 
   -- so that the rows stand within the file
-  pub rows-within : met .number ≡ 0 → (length file ≡ 512 * blocksFor (sizes .tasks)) × (sizes .tasks ≤ 200) × (sizes .cells ≤ 32)
+  pub rows-within : met .number ≡ 0
+      → (length file ≡ 512 * blocksFor (sizes .tasks)) × (sizes .tasks ≤ 200) × (sizes .cells ≤ 32)
   rows-within none =
       let kept = first-kept none in (
         m .whole .is-whole ∙ ap (λ (k : ℕ). 512 * k) (kept .fewest),

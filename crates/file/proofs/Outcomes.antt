@@ -1,6 +1,6 @@
 -- What a call answers and leaves follows from the answer that its rules give: with a refusal every count is 0 and no lent byte
 -- changes; with success the counts are told and the bytes stand first.
-use mathlib.Core.Path.{_≡_, refl, sym, ap, _∙_}
+use mathlib.Core.Path.{_≡_, sym, ap, _∙_}
 use mathlib.Core.List.{List, _++_}
 use Prim.Native.Nat.{ℕ, _+_, _*_, _≤_, _<_}
 use native.Mathlib.Omega.{arith}
@@ -13,11 +13,11 @@ use Rattle.layout.specs.Block.{blocksFor, blockOf}
 use Rattle.layout.specs.File.{rowAt, tasksOf, fileAnswer, readAnswer, rowsOf, lentAfter}
 use Rattle.layout.specs.Write.{rowCount, fileOf, rowsAnswer, writeAnswer}
 use Rattle.layout.proofs.Blocks.{in-range}
-use Rattle.block.specs.declared.Sizes.{Sizes}
-use Rattle.flow.specs.declared.Flow.{Flow}
-use Rattle.flow.proofs.Answers.{Kept}
 use Rattle.roundtrip.proofs.Answers.{FileKept, file-keeps, keeps-file}
 use Rattle.roundtrip.proofs.Read.{fewest, file-sizes}
+use Rattle.flow.specs.declared.Flow.{Flow}
+use Rattle.flow.proofs.Answers.{Kept}
+use Rattle.block.specs.declared.Sizes.{Sizes}
 use Rattle.file.specs.declared.Answer.{Answer}
 use Rattle.file.specs.declared.CheckAnswer.{CheckAnswer}
 use Rattle.file.specs.declared.ReadAnswer.{ReadAnswer}
@@ -200,14 +200,15 @@ module _ {rows : List ℕ} {tasks workers cells : ℕ} {flow : Flow} (f : FlowMa
       write-done out after blocks b room e =
           let blocks-are : blocks ≡ blocksFor (rowCount rows) = b ∙ ap blocksFor tasks-counted in
           let done : success ≡ writeAnswer rows workers cells (length out) =
-          long-enough (rowsAnswer rows workers cells) given-kept (512 * blocksFor (rowCount rows)) (length out) (rw blocks-are at room) in
+          long-enough (rowsAnswer rows workers cells) given-kept (512 * blocksFor (rowCount rows)) (length out)
+          (rw blocks-are at room) in
           record {
             answer = ap writeAll blocks-are ∙ ap (λ (a : Rules.Answer). writeWith a rows) done;
             lent =
                 e
                 ∙ (λ i.
-                    laid 512 (blockOf (tasks-counted i) (f .made .workers-is i) (f .made .cells-is i) rows) (λ index. index) out
-                    (blocksFor (tasks-counted i)))
+                laid 512 (blockOf (tasks-counted i) (f .made .workers-is i) (f .made .cells-is i) rows) (λ index. index) out
+                (blocksFor (tasks-counted i)))
                 ∙ laid-is 512 (blockOf (rowCount rows) workers cells rows) (λ index. index) out (blocksFor (rowCount rows))
                 (λ i l. block-long (rowCount rows) workers cells rows i (omega (arith, f .whole)) l)
                 ∙ ap (λ (a : Rules.Answer). lentAfter a (fileOf (rowCount rows) workers cells rows) out) done;

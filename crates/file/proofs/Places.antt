@@ -1,5 +1,5 @@
 -- A loop over places meets the first refusal: as long as no place has refused, the whole answer is that of the places left.
-use mathlib.Core.Path.{_≡_, sym, ap, ap₂, _∙_}
+use mathlib.Core.Path.{_≡_, sym, ap, _∙_}
 use Prim.Native.Nat.{ℕ, _+_, _-_, _≤_, _<_}
 use native.Mathlib.Omega.{arith}
 use Rattle.layout.specs.Refusal.{Answer, success, refusal, firstAt}
@@ -19,7 +19,7 @@ module _ (number : ℕ → ℕ) (met : Answer) (here end : ℕ) (left : met ≡ 
 
   pub refused : (found : ℕ) → here < end → found ≡ number here → (found ≡ 0 → ⊥) → refusal found here ≡ met
   refused found l e some =
-      sym (left ∙ place-refused number here (end - here) (omega arith) (λ z. some (e ∙ z)) ∙ ap (λ (n : ℕ). refusal n here) (sym e))
+      ap (λ (n : ℕ). refusal n here) e ∙ sym (left ∙ place-refused number here (end - here) (omega arith) (λ z. some (e ∙ z)))
 
   pub done : end ≤ here → success ≡ met
   done l = sym (left ∙ places-done number here (end - here) (omega arith))

@@ -1,7 +1,8 @@
--- `checking::blocks_met` meets its contract. The invariant: no block passed has refused, so the whole answer is that of the blocks left.
-use mathlib.Core.Path.{_≡_, ap, _∙_}
+-- `checking::blocks_met` meets its contract. The invariant: no block passed has refused, so the whole answer is that of the
+-- blocks left.
+use mathlib.Core.Path.{_≡_, ap}
 use mathlib.Core.List.{List}
-use Prim.Native.Nat.{ℕ, _+_, _-_, _*_, _≤_}
+use Prim.Native.Nat.{ℕ, _-_, _≤_}
 use borrow.Author.Needs.{needs}
 use Rattle.layout.specs.Refusal.{firstAt}
 use Rattle.layout.specs.Block.{blockRefusal}
@@ -54,7 +55,7 @@ refusal-requires c κs = search needs
 returns : tie.Need-returns Inv-loop μ-loop
 returns c =
     ap answerOf
-    (refused _ _ _ _ (c .before .before .before .before .before .loop .inv .1) _ (c .before .before .before .before .loop-test .taken)
+    (refused _ _ _ _ (c .before .before .before .before .before .loop .inv .1) _ (search needs)
     (rw (c .before .before .before .offset .ensures) at (c .before .refusal .ensures)) (c .if1 .taken))
 
 add-index : tie.Need-add-index Inv-loop μ-loop
@@ -66,8 +67,8 @@ loop-less c = search needs
 loop-again : tie.Need-loop-again Inv-loop μ-loop
 loop-again c = (
   search needs,
-  passed _ _ _ _ (c .before .before .before .before .before .loop .inv .1) _ (c .before .before .before .before .loop-test .taken)
-  (rw (c .before .before .before .offset .ensures) at (c .before .refusal .ensures)) (c .if1 .left),
+  passed _ _ _ _ (c .before .before .before .before .before .loop .inv .1) _ (search needs)
+      (rw (c .before .before .before .offset .ensures) at (c .before .refusal .ensures)) (c .if1 .left),
 )
 
 returns-2 : tie.Need-returns-2 Inv-loop μ-loop

@@ -1,10 +1,10 @@
 -- `checking::check` meets its contract: a refusal is passed on with zero sizes, and an accepted file tells what block 0 states.
 use mathlib.Core.Path.{_≡_, sym, ap, _∙_}
+use borrow.Author.Needs.{needs}
 use Rattle.layout.specs.Refusal.{refusal}
 use Rattle.layout.specs.File.{fileAnswer}
 use Rattle.file.specs.declared.Answer.{Answer}
 use Rattle.file.proofs.Outcomes.{check-refused, some-block, check-done}
-use borrow.Author.Needs.{needs}
 use Rattle.file.proofs.checking.check.Statement.{statement}
 use Rattle.file.proofs.checking.check.Tie as tie
 

@@ -1,11 +1,12 @@
--- `checking::file_met` meets its contract: length, blocks and rows are asked in the order of the definition, and each part stands within what the parts before it showed.
-use mathlib.Core.Path.{_≡_, ap}
+-- `checking::file_met` meets its contract: length, blocks and rows are asked in the order of the definition, and each part
+-- stands within what the parts before it showed.
+use mathlib.Core.Path.{ap}
 use native.Mathlib.Omega.{arith}
+use borrow.Author.Needs.{needs}
 use lib.ListN.{length}
 use Rattle.file.specs.Answers.{answerOf}
 use Rattle.file.proofs.Whole.{Sound, unsound, is-sound}
 use Rattle.file.proofs.Order.{length-refused, BlocksMet, block-refused, row-answers, rows-within}
-use borrow.Author.Needs.{needs}
 use Rattle.file.proofs.checking.file_met.Statement.{statement}
 use Rattle.file.proofs.checking.file_met.Tie as tie
 
@@ -20,7 +21,7 @@ returns c =
 
 -- from here on, the file is whole blocks
 whole : (c : tie.Else1) → Sound 512 10240 (length (c .before .before .before .args .file .now)) (c .before .whole-blocks .result)
-whole c = is-sound 512 10240 (length (c .before .before .before .args .file .now)) (c .before .whole-blocks .result) (c .before .whole-blocks .ensures) (c .if1 .left)
+whole c = is-sound 512 10240 _ _ (c .before .whole-blocks .ensures) (c .if1 .left)
 
 sizes-of-requires : tie.Need-sizes-of-requires
 sizes-of-requires c κs = omega (arith, whole c)

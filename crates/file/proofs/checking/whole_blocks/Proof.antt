@@ -1,6 +1,6 @@
 -- `checking::whole_blocks` meets its contract: the tests are those of rule 1, and where one fails the count is 0.
-use Rattle.file.proofs.Whole.{none, too-many, left-over, counted}
 use borrow.Author.Needs.{needs}
+use Rattle.file.proofs.Whole.{none, too-many, left-over, counted}
 use Rattle.file.proofs.checking.whole_blocks.Statement.{statement}
 use Rattle.file.proofs.checking.whole_blocks.Tie as tie
 

@@ -1,4 +1,5 @@
--- `reading::copy_rows` meets its contract. The invariant: the rows so far stand one after another, and the lent bytes behind them are as they were.
+-- `reading::copy_rows` meets its contract. The invariant: the rows so far stand one after another, and the lent bytes behind
+-- them are as they were.
 use mathlib.Core.Path.{_≡_, ap, _∙_}
 use mathlib.Core.List.{List}
 use Prim.Native.Nat.{ℕ, _+_, _-_, _≤_}
@@ -18,7 +19,8 @@ abbrev μ-loop : tie.MeasureT-loop
 
 loop-holds : tie.Need-loop-holds Inv-loop μ-loop
 loop-holds c =
-    (search needs, search needs, laid-none 48 (rowAt (c .before .before .args .file .now)) (λ i. i + 1) (c .before .before .args .rows .now))
+    let a = c .before .before .args in
+    (search needs, search needs, laid-none 48 (rowAt (a .file .now)) (λ i. i + 1) (a .rows .now))
 
 add-row-start : tie.Need-add-row-start Inv-loop μ-loop
 add-row-start c = search needs
@@ -71,16 +73,15 @@ loop-again c =
     let l = c .before .before .before .before .before .before .before .before .loop in
     let from = c .before .before .before .before .before .before .row-start in
     let to = c .before .before .before .before .before .offset in
-    let piece : List ℕ = c .before .before .copy .last .1 .0 in
-    (
+    let piece : List ℕ = c .before .before .copy .last .1 .0 in (
       search needs,
       search needs,
       laid-more 48 (rowAt (a .file .now)) (λ i. i + 1) (a .rows .now) (l .done) (to .result) (l .rows) piece
-      (λ i m. row-long (a .file .now) (a .tasks) i (search needs) (search needs))
-      (l .inv .2)
-      (to .ensures)
-      (copied 48 (from .result) (to .result) (rowStart (l .done + 1)) (a .file .now) (l .rows) piece (search needs) (c .before .before .copy .ensures .1)
-      (from .ensures)),
+          (λ i m. row-long (a .file .now) (a .tasks) i (search needs) (search needs))
+          (l .inv .2)
+          (to .ensures)
+          (copied 48 (from .result) (to .result) (rowStart (l .done + 1)) (a .file .now) (l .rows) piece (search needs)
+          (c .before .before .copy .ensures .1) (from .ensures)),
     )
 
 same-length : tie.Need-same-length Inv-loop μ-loop

@@ -1,10 +1,10 @@
--- `reading::read` meets its contract: a refusal comes before any byte is written, and the rows of an accepted file are laid into the lent bytes.
-use mathlib.Core.Path.{_≡_}
+-- `reading::read` meets its contract: a refusal comes before any byte is written, and the rows of an accepted file are laid into
+-- the lent bytes.
 use native.Mathlib.Omega.{arith}
+use borrow.Author.Needs.{needs}
 use lib.ListN.{length}
 use Rattle.layout.specs.Refusal.{refusal}
 use Rattle.file.proofs.Outcomes.{read-refused, passed-on, rows-fit, read-short, read-done}
-use borrow.Author.Needs.{needs}
 use Rattle.file.proofs.reading.read.Statement.{statement}
 use Rattle.file.proofs.reading.read.Tie as tie
 
@@ -16,10 +16,8 @@ refused-requires c κs = search needs
 
 returns : tie.Need-returns
 returns c =
-    let a = c .before .before .before .before .before .before .args in
-    let met = c .before .before .before .check in
-    read-refused (refusal (met .result .number) (met .result .place)) (c .before .if1 .taken) _ (a .rows .now) _
-    (passed-on (met .ensures) (length (a .rows .now)) (c .before .if1 .taken)) (c .refused .ensures)
+    read-refused _ (c .before .if1 .taken) _ _ _ (passed-on (c .before .before .before .check .ensures) _ (c .before .if1 .taken))
+    (c .refused .ensures)
 
 mul-bytes : tie.Need-mul-bytes
 mul-bytes c = omega (arith, rows-fit (c .before .before .before .check .ensures) (c .before .if1 .left))
@@ -32,15 +30,16 @@ refused-requires-2 c κs = search needs
 
 returns-2 : tie.Need-returns-2
 returns-2 c =
-    let a = c .before .before .before .before .before .before .before .before .before .args in
-    read-refused (refusal 16 0) (omega arith) _ (a .rows .now) _
+    let rows = c .before .before .before .before .before .before .before .before .before .args .rows .now in
+    read-refused (refusal 16 0) (omega arith) _ _ _
     (read-short (c .before .before .before .before .before .before .check .ensures) (c .before .before .before .before .if1 .left)
-    (length (a .rows .now)) (omega arith))
+    (length rows) (search needs))
     (c .refused2 .ensures)
 
 copy-rows-requires : tie.Need-copy-rows-requires
 copy-rows-requires c κs =
-    let fit = rows-fit (c .before .before .before .before .before .before .check .ensures) (c .before .before .before .before .if1 .left) in
+    let met = c .before .before .before .before .before .before .check in
+    let fit = rows-fit (met .ensures) (c .before .before .before .before .if1 .left) in
     (fit .0, fit .1, search needs)
 
 same-length : tie.Need-same-length

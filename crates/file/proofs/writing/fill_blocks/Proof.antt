@@ -1,6 +1,7 @@
--- `writing::fill_blocks` meets its contract. The invariant: the blocks so far stand one after another, and the lent bytes behind them are as they were.
+-- `writing::fill_blocks` meets its contract. The invariant: the blocks so far stand one after another, and the lent bytes
+-- behind them are as they were.
 use mathlib.Core.Path.{_≡_, ap, _∙_}
-use Prim.Native.Nat.{ℕ, _+_, _-_, _≤_}
+use Prim.Native.Nat.{_-_, _≤_}
 use borrow.Author.Needs.{needs}
 use lib.ListN.{length}
 use Rattle.layout.specs.Block.{blocksFor, blockOf}
@@ -22,8 +23,7 @@ blocks-for-requires c κs = search needs
 
 loop-holds : tie.Need-loop-holds Inv-loop μ-loop
 loop-holds c =
-    let a = c .before .before .before .args in
-    (
+    let a = c .before .before .before .args in (
       search needs,
       search needs,
       laid-none 512 (blockOf (a .flow .tasks) (a .flow .workers) (a .flow .cells) (a .rows .now)) (λ i. i) (a .out .now),
@@ -60,16 +60,15 @@ loop-again : tie.Need-loop-again Inv-loop μ-loop
 loop-again c =
     let a = c .before .before .before .before .before .before .before .before .before .before .args in
     let l = c .before .before .before .before .before .before .loop in
-    let from = c .before .before .before .before .offset in
-    (
+    let from = c .before .before .before .before .offset in (
       search needs,
       search needs,
-      laid-more 512 (blockOf (a .flow .tasks) (a .flow .workers) (a .flow .cells) (a .rows .now)) (λ i. i) (a .out .now) (l .index)
-      (from .result) (l .out) (c .before .before .fill .last .0)
-      (λ i m. block-long (a .flow .tasks) (a .flow .workers) (a .flow .cells) (a .rows .now) i (search needs) (search needs))
-      (l .inv .2)
-      (from .ensures)
-      (c .before .before .fill .ensures),
+      laid-more 512 (blockOf (a .flow .tasks) (a .flow .workers) (a .flow .cells) (a .rows .now)) (λ i. i) (a .out .now)
+          (l .index) (from .result) (l .out) (c .before .before .fill .last .0)
+          (λ i m. block-long (a .flow .tasks) (a .flow .workers) (a .flow .cells) (a .rows .now) i (search needs) (search needs))
+          (l .inv .2)
+          (from .ensures)
+          (c .before .before .fill .ensures),
     )
 
 same-length : tie.Need-same-length Inv-loop μ-loop
@@ -80,7 +79,8 @@ unfolding fileOf
 returns c =
     let a = c .before .before .before .before .before .args in
     let all : c .before .loop .index ≡ blocksFor (a .flow .tasks) = search needs in
-    c .before .loop .inv .2 ∙ ap (laid 512 (blockOf (a .flow .tasks) (a .flow .workers) (a .flow .cells) (a .rows .now)) (λ i. i) (a .out .now)) all
+    c .before .loop .inv .2
+    ∙ ap (laid 512 (blockOf (a .flow .tasks) (a .flow .workers) (a .flow .cells) (a .rows .now)) (λ i. i) (a .out .now)) all
 
 pub fill-blocks-spec : {M : Type 1} → statement M
 fill-blocks-spec =

@@ -1,4 +1,5 @@
--- `writing::given_met` meets its contract. The invariant: no row passed has refused, so the whole answer is that of the rows left.
+-- `writing::given_met` meets its contract. The invariant: no row passed has refused, so the whole answer is that of the rows
+-- left.
 use mathlib.Core.Path.{_≡_, ap}
 use mathlib.Core.List.{List}
 use Prim.Native.Nat.{ℕ, _+_, _-_, _≤_}
@@ -70,7 +71,7 @@ loop-again c = (
   search needs,
   search needs,
   passed _ _ _ _ (c .before .before .before .before .before .before .loop .inv .2) _ (search needs)
-  (rw (c .before .before .before .offset .ensures) at (c .before .refusal .ensures)) (c .if2 .left),
+      (rw (c .before .before .before .offset .ensures) at (c .before .refusal .ensures)) (c .if2 .left),
 )
 
 returns-2 : tie.Need-returns-2 Inv-loop μ-loop

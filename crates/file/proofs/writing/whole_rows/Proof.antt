@@ -1,6 +1,6 @@
 -- `writing::whole_rows` meets its contract: the tests are those of rule 15, and where one fails the count is 0.
-use Rattle.file.proofs.Whole.{none, too-many, left-over, counted}
 use borrow.Author.Needs.{needs}
+use Rattle.file.proofs.Whole.{none, too-many, left-over, counted}
 use Rattle.file.proofs.writing.whole_rows.Statement.{statement}
 use Rattle.file.proofs.writing.whole_rows.Tie as tie
 
@@ -23,7 +23,9 @@ cast-result : tie.Need-cast-result
 cast-result c = search needs
 
 returns-4 : tie.Need-returns-4
-returns-4 c = counted 48 9600 (c .before .before .before .before .args .bytes) (c .before .before .before .if1 .left) (search needs) (c .if3 .left)
+returns-4 c =
+    let bytes = c .before .before .before .before .args .bytes in
+    counted 48 9600 bytes (c .before .before .before .if1 .left) (search needs) (c .if3 .left)
 
 pub whole-rows-spec : {M : Type 1} → statement M
 whole-rows-spec =

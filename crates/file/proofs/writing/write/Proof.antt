@@ -1,6 +1,8 @@
--- `writing::write` meets its contract: a refusal comes before any byte is written, and the blocks of accepted rows are laid into the lent output.
-use mathlib.Core.Path.{_≡_, sym, ap, _∙_}
+-- `writing::write` meets its contract: a refusal comes before any byte is written, and the blocks of accepted rows are laid
+-- into the lent output.
+use mathlib.Core.Path.{sym, ap, _∙_}
 use native.Mathlib.Omega.{arith}
+use borrow.Author.Needs.{needs}
 use lib.ListN.{length}
 use Rattle.layout.specs.Refusal.{refusal}
 use Rattle.flow.specs.Made.{statedBy}
@@ -8,7 +10,6 @@ use Rattle.flow.proofs.Answers.{within-is, outside-is}
 use Rattle.file.proofs.Whole.{Sound, unsound, is-sound}
 use Rattle.file.proofs.Order.{rows-refused, sizes-refused}
 use Rattle.file.proofs.Outcomes.{write-refused, FlowMade, flow-fits, given-refused, write-short, write-done}
-use borrow.Author.Needs.{needs}
 use Rattle.file.proofs.writing.write.Statement.{statement}
 use Rattle.file.proofs.writing.write.Tie as tie
 
@@ -20,18 +21,14 @@ refused-requires c κs = search needs
 
 returns : tie.Need-returns
 returns c =
-    let a = c .before .before .before .before .before .args in
-    let count = c .before .before .whole-rows in
-    write-refused (refusal 15 0) (omega arith) (a .rows .now) (a .workers) (a .cells) (a .out .now) _
-    (rows-refused (a .rows .now) (a .workers) (a .cells) (length (a .out .now))
-    (unsound 48 9600 (length (a .rows .now)) (count .result) (count .ensures) (c .before .if1 .taken)))
+    let bytes = length (c .before .before .before .before .before .args .rows .now) in
+    write-refused (refusal 15 0) (omega arith) _ _ _ _ _
+    (rows-refused _ _ _ _ (unsound 48 9600 bytes _ (c .before .before .whole-rows .ensures) (c .before .if1 .taken)))
     (c .refused .ensures)
 
 -- from here on, the rows are whole rows
 whole : (c : tie.Else1) → Sound 48 9600 (length (c .before .before .before .before .args .rows .now)) (c .before .whole-rows .result)
-whole c =
-    is-sound 48 9600 (length (c .before .before .before .before .args .rows .now)) (c .before .whole-rows .result) (c .before .whole-rows .ensures)
-    (c .if1 .left)
+whole c = is-sound 48 9600 _ _ (c .before .whole-rows .ensures) (c .if1 .left)
 
 new-requires : tie.Need-new-requires
 new-requires c κs = search needs
@@ -49,15 +46,19 @@ returns-2 : tie.Need-returns-2
 returns-2 c =
     let a = c .before .before .before .before .before .before .before .before .args in
     let tasks = c .before .before .before .before .before .whole-rows .result in
-    write-refused (refusal 4 0) (omega arith) (a .rows .now) (a .workers) (a .cells) (a .out .now) _
-    (sizes-refused (a .rows .now) tasks (a .workers) (a .cells) (whole (c .before .before .before .before)) (length (a .out .now))
-    (outside-is tasks (a .workers) (a .cells) (ap statedBy (sym (c .before .enum-told .given .1)) ∙ c .before .before .before .new .ensures)))
+    let made = c .before .before .before .new in
+    write-refused (refusal 4 0) (omega arith) _ _ _ _ _
+    (sizes-refused _ _ _ _ (whole (c .before .before .before .before)) _
+    (outside-is tasks (a .workers) (a .cells) (ap statedBy (sym (c .before .enum-told .given .1)) ∙ made .ensures)))
     (c .refused2 .ensures)
 
 -- and from here on, there is a flow of the sizes asked for
 known : (c : tie.After-flow)
-    → FlowMade (c .before .before .before .before .before .before .before .args .rows .now) (c .before .before .before .before .whole-rows .result)
-    (c .before .before .before .before .before .before .before .args .workers) (c .before .before .before .before .before .before .before .args .cells)
+    → FlowMade
+    (c .before .before .before .before .before .before .before .args .rows .now)
+    (c .before .before .before .before .whole-rows .result)
+    (c .before .before .before .before .before .before .before .args .workers)
+    (c .before .before .before .before .before .before .before .args .cells)
     (c .flow .given .0 .0)
 known c =
     record {
@@ -73,10 +74,9 @@ refused-requires-3 c κs = search needs
 
 returns-3 : tie.Need-returns-3
 returns-3 c =
-    let a = c .before .before .before .before .before .before .before .before .before .before .before .before .args in
-    let met = c .before .before .before .given-met in
-    write-refused (refusal (met .result .number) (met .result .place)) (c .before .if2 .taken) (a .rows .now) (a .workers) (a .cells) (a .out .now) _
-    (given-refused (known (c .before .before .before .before .before)) (met .ensures) (length (a .out .now)) (c .before .if2 .taken))
+    write-refused _ (c .before .if2 .taken) _ _ _ _ _
+    (given-refused (known (c .before .before .before .before .before)) (c .before .before .before .given-met .ensures) _
+    (c .before .if2 .taken))
     (c .refused3 .ensures)
 
 blocks-for-requires : tie.Need-blocks-for-requires
@@ -93,10 +93,11 @@ refused-requires-4 c κs = search needs
 
 returns-4 : tie.Need-returns-4
 returns-4 c =
-    let a = c .before .before .before .before .before .before .before .before .before .before .before .before .before .before .before .args in
-    write-refused (refusal 16 0) (omega arith) (a .rows .now) (a .workers) (a .cells) (a .out .now) _
-    (write-short (known (c .before .before .before .before .before .before .before .before)) (c .before .before .before .before .before .before .given-met .ensures)
-    (c .before .before .before .before .if2 .left) (length (a .out .now)) (omega arith))
+    let start = c .before .before .before .before .before .before .before .before .before .before .before .before .before .before .before in
+    let met = c .before .before .before .before .before .before .given-met in
+    write-refused (refusal 16 0) (omega arith) _ _ _ _ _
+    (write-short (known (c .before .before .before .before .before .before .before .before)) (met .ensures)
+    (c .before .before .before .before .if2 .left) (length (start .args .out .now)) (omega arith))
     (c .refused4 .ensures)
 
 fill-blocks-requires : tie.Need-fill-blocks-requires
