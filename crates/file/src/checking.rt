@@ -13,7 +13,8 @@ ghost use Rattle.layout.specs.Refusal.{firstAt};
 ghost use Rattle.layout.specs.Row.{rowRefusal};
 ghost use Rattle.layout.specs.Block.{blocksFor, blockRefusal};
 ghost use Rattle.layout.specs.File.{blockAt, rowAt, rowStart, lengthSound, fileAnswer};
-ghost use Rattle.file.specs.Answers.{answerOf, checkAnswer};
+ghost use Rattle.file.specs.Answers.{answerOf};
+ghost use Rattle.file.specs.Promises.{CheckPromise};
 
 // The blocks in so many bytes; 0 where 1 refuses them.
 fn whole_blocks(bytes: usize) -> u32
@@ -107,7 +108,7 @@ fn file_met(file: &[u8]) -> Answer
 
 // The check of a flow file: 0 with the flow's sizes, or the first refusal met.
 pub fn check(file: &[u8]) -> CheckAnswer
-    ensures { λ r. ⌜ r ≡ checkAnswer (now (file .entry)) ⌝ }
+    ensures { λ r. ⌜ CheckPromise (now (file .entry)) r ⌝ }
 {
     let met = file_met(file);
     if met.number != 0 {

@@ -9,7 +9,7 @@ ghost use lib.ListN.{length, drop};
 ghost use Rattle.layout.specs.Lists.{each, joined};
 ghost use Rattle.layout.specs.Block.{blocksFor};
 ghost use Rattle.layout.specs.File.{rowAt};
-ghost use Rattle.file.specs.Answers.{readIs, rowsAfter};
+ghost use Rattle.file.specs.Promises.{ReadPromise};
 
 // Copies the rows of an accepted file.
 fn copy_rows(file: &[u8], rows: &mut [u8], tasks: u32)
@@ -27,7 +27,7 @@ fn copy_rows(file: &[u8], rows: &mut [u8], tasks: u32)
 
 // Reads a file into lent rows: 0 with the bytes written and the flow's sizes, or a refusal that changes no byte.
 pub fn read(file: &[u8], rows: &mut [u8]) -> ReadAnswer
-    ensures { λ r. ⌜ (r ≡ readIs (now (file .entry)) (now (rows .entry))) × (now (rows .exit) ≡ rowsAfter (now (file .entry)) (now (rows .entry))) ⌝ }
+    ensures { λ r. ⌜ ReadPromise (now (file .entry)) (now (rows .entry)) r (now (rows .exit)) ⌝ }
 {
     let met = check(file);
     if met.number != 0 {

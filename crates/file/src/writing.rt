@@ -13,7 +13,8 @@ ghost use Rattle.layout.specs.Refusal.{firstAt};
 ghost use Rattle.layout.specs.Row.{rowRefusal};
 ghost use Rattle.layout.specs.Block.{blocksFor};
 ghost use Rattle.layout.specs.Write.{fileOf, rowsSound, rowOfTask};
-ghost use Rattle.file.specs.Answers.{answerOf, writeIs, outAfter};
+ghost use Rattle.file.specs.Answers.{answerOf};
+ghost use Rattle.file.specs.Promises.{WritePromise};
 
 // The rows in so many bytes; 0 where 15 refuses them.
 fn whole_rows(bytes: usize) -> u32
@@ -70,7 +71,7 @@ fn fill_blocks(rows: &[u8], out: &mut [u8], flow: Flow)
 
 // Writes rows, workers and cells as a file: 0 with the bytes written, or a refusal that changes no byte.
 pub fn write(rows: &[u8], workers: u32, cells: u32, out: &mut [u8]) -> WriteAnswer
-    ensures { λ r. ⌜ (r ≡ writeIs (now (rows .entry)) workers cells (now (out .entry))) × (now (out .exit) ≡ outAfter (now (rows .entry)) workers cells (now (out .entry))) ⌝ }
+    ensures { λ r. ⌜ WritePromise (now (rows .entry)) workers cells (now (out .entry)) r (now (out .exit)) ⌝ }
 {
     let tasks = whole_rows(rows.len());
     if tasks == 0 {

@@ -1,63 +1,75 @@
+-- `checking::rows_met` meets its contract. The invariant: no row passed has refused, so the whole answer is that of the rows
+-- left.
+use mathlib.Core.Path.{_≡_, ap}
+use mathlib.Core.List.{List}
+use Prim.Native.Nat.{ℕ, _+_, _-_, _≤_}
+use borrow.Author.Needs.{needs}
+use Rattle.layout.specs.Refusal.{firstAt}
+use Rattle.layout.specs.Row.{rowRefusal}
+use Rattle.layout.specs.File.{rowAt}
+use Rattle.block.specs.declared.Sizes.{Sizes}
+use Rattle.file.specs.Answers.{answerOf}
+use Rattle.file.proofs.Places.{begun, passed, refused, done}
 use Rattle.file.proofs.checking.rows_met.Statement.{statement}
 use Rattle.file.proofs.checking.rows_met.Tie as tie
-use Rattle.file.proofs.checking.rows_met.Reads as reads
-use Rattle.file.proofs.checking.rows_met.Lts as lts
-use Rattle.file.proofs.checking.row_start.Reads as row-start-reads
-use Rattle.row.proofs.refusal.Reads as refusal-reads
+
+-- the first of 6 to 11 that a task's row breaks
+abbrev number : List ℕ → Sizes → ℕ → ℕ
+number file sizes task = rowRefusal (sizes .workers) (sizes .cells) (rowAt file task)
 
 abbrev Inv-loop : tie.InvT-loop
-Inv-loop file sizes task₀ task = ?
+Inv-loop file sizes task₀ task =
+    (1 ≤ task) × (task ≤ sizes .tasks + 1)
+    × (firstAt (number file sizes) 1 (sizes .tasks) ≡ firstAt (number file sizes) task (sizes .tasks + 1 - task))
 
 abbrev μ-loop : tie.MeasureT-loop
-μ-loop file sizes task₀ task = ?
+μ-loop file sizes task₀ task = sizes .tasks + 1 - task
 
--- src/checking.rt:72:5
 loop-holds : tie.Need-loop-holds Inv-loop μ-loop
-loop-holds c = ?
+loop-holds c =
+    let tasks : ℕ = c .before .args .sizes .tasks in
+    (search needs, search needs, begun _ 1 (tasks + 1) tasks (search needs))
 
--- src/checking.rt:73:13
 row-start-requires : tie.Need-row-start-requires Inv-loop μ-loop
-row-start-requires c κs = ?
+row-start-requires c κs = search needs
 
--- src/checking.rt:74:47
 add-refusal : tie.Need-add-refusal Inv-loop μ-loop
-add-refusal c = ?
+add-refusal c = search needs
 
--- src/checking.rt:74:35
 sub-refusal : tie.Need-sub-refusal Inv-loop μ-loop
-sub-refusal c = ?
+sub-refusal c = search needs
 
--- src/checking.rt:74:35
 part-refusal-start : tie.Need-part-refusal-start Inv-loop μ-loop
-part-refusal-start c = ?
+part-refusal-start c = search needs
 
--- src/checking.rt:74:35
 part-refusal-end : tie.Need-part-refusal-end Inv-loop μ-loop
-part-refusal-end c = ?
+part-refusal-end c = search needs
 
--- src/checking.rt:74:13
 refusal-requires : tie.Need-refusal-requires Inv-loop μ-loop
-refusal-requires c κs = ?
+refusal-requires c κs = search needs
 
--- src/checking.rt:76:13
 returns : tie.Need-returns Inv-loop μ-loop
-returns c = ?
+returns c =
+    ap answerOf
+    (refused _ _ _ _ (c .before .before .before .before .before .before .loop .inv .2) _ (search needs)
+    (rw (c .before .before .before .row-start .ensures) at (c .before .refusal .ensures)) (c .if2 .taken))
 
--- src/checking.rt:81:9
 add-task : tie.Need-add-task Inv-loop μ-loop
-add-task c = ?
+add-task c = search needs
 
--- src/checking.rt:72:5
 loop-less : tie.Need-loop-less Inv-loop μ-loop
-loop-less c = ?
+loop-less c = search needs
 
--- src/checking.rt:72:5
 loop-again : tie.Need-loop-again Inv-loop μ-loop
-loop-again c = ?
+loop-again c = (
+  search needs,
+  search needs,
+  passed _ _ _ _ (c .before .before .before .before .before .before .loop .inv .2) _ (search needs)
+      (rw (c .before .before .before .row-start .ensures) at (c .before .refusal .ensures)) (c .if2 .left),
+)
 
--- src/checking.rt:67:1
 returns-2 : tie.Need-returns-2 Inv-loop μ-loop
-returns-2 c = ?
+returns-2 c = ap answerOf (done _ _ _ _ (c .before .before .loop .inv .2) (search needs))
 
 pub rows-met-spec : {M : Type 1} → statement M
 rows-met-spec =

@@ -1,32 +1,26 @@
+-- `checking::whole_blocks` meets its contract: the tests are those of rule 1, and where one fails the count is 0.
 use borrow.Author.Needs.{needs}
+use Rattle.file.proofs.Whole.{none, too-many, left-over, counted}
 use Rattle.file.proofs.checking.whole_blocks.Statement.{statement}
 use Rattle.file.proofs.checking.whole_blocks.Tie as tie
-use Rattle.file.proofs.checking.whole_blocks.Reads as reads
-use Rattle.file.proofs.checking.whole_blocks.Lts as lts
 
--- src/checking.rt:23:9
 returns : tie.Need-returns
-returns c = ?
+returns c = none 512 10240 _ (c .if1 .taken)
 
--- src/checking.rt:25:16
 mul-if2 : tie.Need-mul-if2
 mul-if2 c = search needs
 
--- src/checking.rt:26:9
 returns-2 : tie.Need-returns-2
-returns-2 c = ?
+returns-2 c = too-many 512 10240 _ (c .if2 .taken)
 
--- src/checking.rt:29:9
 returns-3 : tie.Need-returns-3
-returns-3 c = ?
+returns-3 c = left-over 512 10240 _ (c .if3 .taken)
 
--- src/checking.rt:31:5
 cast-result : tie.Need-cast-result
 cast-result c = search needs
 
--- src/checking.rt:19:1
 returns-4 : tie.Need-returns-4
-returns-4 c = ?
+returns-4 c = counted 512 10240 _ (c .before .before .if1 .left) (c .before .if2 .left) (c .if3 .left)
 
 pub whole-blocks-spec : {M : Type 1} → statement M
 whole-blocks-spec = tie.close (tie.spec returns mul-if2 returns-2 returns-3 cast-result returns-4)

@@ -1,92 +1,97 @@
+-- `reading::copy_rows` meets its contract. The invariant: the rows so far stand one after another, and the lent bytes behind
+-- them are as they were.
+use mathlib.Core.Path.{_≡_, ap, _∙_}
+use mathlib.Core.List.{List}
+use Prim.Native.Nat.{ℕ, _+_, _-_, _≤_}
+use borrow.Author.Needs.{needs}
+use lib.ListN.{length}
+use Rattle.layout.specs.File.{rowStart, rowAt}
+use Rattle.file.proofs.Laid.{laid, laid-none, laid-more, copied, row-long}
 use Rattle.file.proofs.reading.copy_rows.Statement.{statement}
 use Rattle.file.proofs.reading.copy_rows.Tie as tie
-use Rattle.file.proofs.reading.copy_rows.Reads as reads
-use Rattle.file.proofs.reading.copy_rows.Lts as lts
-use Rattle.bytes.proofs.copy.Reads as copy-reads
-use Rattle.file.proofs.checking.row_start.Reads as row-start-reads
-use Rattle.octets.proofs.offset.Reads as offset-reads
 
 abbrev Inv-loop : tie.InvT-loop
-Inv-loop file rows₀ tasks done₀ rows done = ?
+Inv-loop file rows₀ tasks done₀ rows done =
+    (done ≤ tasks) × (length rows ≡ length rows₀) × (rows ≡ laid 48 (rowAt file) (λ i. i + 1) rows₀ done)
 
 abbrev μ-loop : tie.MeasureT-loop
-μ-loop file rows₀ tasks done₀ rows done = ?
+μ-loop file rows₀ tasks done₀ rows done = tasks - done
 
--- src/reading.rt:20:5
 loop-holds : tie.Need-loop-holds Inv-loop μ-loop
-loop-holds c = ?
+loop-holds c =
+    let a = c .before .before .args in
+    (search needs, search needs, laid-none 48 (rowAt (a .file .now)) (λ i. i + 1) (a .rows .now))
 
--- src/reading.rt:21:30
 add-row-start : tie.Need-add-row-start Inv-loop μ-loop
-add-row-start c = ?
+add-row-start c = search needs
 
--- src/reading.rt:21:13
 row-start-requires : tie.Need-row-start-requires Inv-loop μ-loop
-row-start-requires c κs = ?
+row-start-requires c κs = search needs
 
--- src/reading.rt:22:33
 mul-offset : tie.Need-mul-offset Inv-loop μ-loop
-mul-offset c = ?
+mul-offset c = search needs
 
--- src/reading.rt:22:13
 offset-requires : tie.Need-offset-requires Inv-loop μ-loop
-offset-requires c κs = ?
+offset-requires c κs = search needs
 
--- src/reading.rt:23:33
 add-copy : tie.Need-add-copy Inv-loop μ-loop
-add-copy c = ?
+add-copy c = search needs
 
--- src/reading.rt:23:21
 sub-copy : tie.Need-sub-copy Inv-loop μ-loop
-sub-copy c = ?
+sub-copy c = search needs
 
--- src/reading.rt:23:21
 part-copy-start : tie.Need-part-copy-start Inv-loop μ-loop
-part-copy-start c = ?
+part-copy-start c = search needs
 
--- src/reading.rt:23:21
 part-copy-end : tie.Need-part-copy-end Inv-loop μ-loop
-part-copy-end c = ?
+part-copy-end c = search needs
 
--- src/reading.rt:23:59
 add-copy-2 : tie.Need-add-copy-2 Inv-loop μ-loop
-add-copy-2 c = ?
+add-copy-2 c = search needs
 
--- src/reading.rt:23:45
 sub-copy-2 : tie.Need-sub-copy-2 Inv-loop μ-loop
-sub-copy-2 c = ?
+sub-copy-2 c = search needs
 
--- src/reading.rt:23:45
 part-copy-start-2 : tie.Need-part-copy-start-2 Inv-loop μ-loop
-part-copy-start-2 c = ?
+part-copy-start-2 c = search needs
 
--- src/reading.rt:23:45
 part-copy-end-2 : tie.Need-part-copy-end-2 Inv-loop μ-loop
-part-copy-end-2 c = ?
+part-copy-end-2 c = search needs
 
--- src/reading.rt:23:9
 copy-requires : tie.Need-copy-requires Inv-loop μ-loop
-copy-requires c κs = ?
+copy-requires c κs = search needs
 
--- src/reading.rt:24:9
 add-done : tie.Need-add-done Inv-loop μ-loop
-add-done c = ?
+add-done c = search needs
 
--- src/reading.rt:20:5
 loop-less : tie.Need-loop-less Inv-loop μ-loop
-loop-less c = ?
+loop-less c = search needs
 
--- src/reading.rt:20:5
 loop-again : tie.Need-loop-again Inv-loop μ-loop
-loop-again c = ?
+loop-again c =
+    let a = c .before .before .before .before .before .before .before .before .before .before .before .args in
+    let l = c .before .before .before .before .before .before .before .before .loop in
+    let from = c .before .before .before .before .before .before .row-start in
+    let to = c .before .before .before .before .before .offset in
+    let piece : List ℕ = c .before .before .copy .last .1 .0 in (
+      search needs,
+      search needs,
+      laid-more 48 (rowAt (a .file .now)) (λ i. i + 1) (a .rows .now) (l .done) (to .result) (l .rows) piece
+          (λ i m. row-long (a .file .now) (a .tasks) i (search needs) (search needs))
+          (l .inv .2)
+          (to .ensures)
+          (copied 48 (from .result) (to .result) (rowStart (l .done + 1)) (a .file .now) (l .rows) piece (search needs)
+          (c .before .before .copy .ensures .1) (from .ensures)),
+    )
 
--- src/reading.rt:15:1
 same-length : tie.Need-same-length Inv-loop μ-loop
-same-length c = ?
+same-length c = c .before .loop .inv .1
 
--- src/reading.rt:15:1
 returns : tie.Need-returns Inv-loop μ-loop
-returns c = ?
+returns c =
+    let a = c .before .before .before .before .args in
+    let all : c .before .loop .done ≡ a .tasks = search needs in
+    c .before .loop .inv .2 ∙ ap (laid 48 (rowAt (a .file .now)) (λ i. i + 1) (a .rows .now)) all
 
 pub copy-rows-spec : {M : Type 1} → statement M
 copy-rows-spec =

@@ -1,72 +1,86 @@
+-- `writing::fill_blocks` meets its contract. The invariant: the blocks so far stand one after another, and the lent bytes
+-- behind them are as they were.
+use mathlib.Core.Path.{_≡_, ap, _∙_}
+use Prim.Native.Nat.{_-_, _≤_}
+use borrow.Author.Needs.{needs}
+use lib.ListN.{length}
+use Rattle.layout.specs.Block.{blocksFor, blockOf}
+use Rattle.layout.specs.Write.{fileOf}
+use Rattle.file.proofs.Laid.{laid, laid-none, laid-more, block-long}
 use Rattle.file.proofs.writing.fill_blocks.Statement.{statement}
 use Rattle.file.proofs.writing.fill_blocks.Tie as tie
-use Rattle.file.proofs.writing.fill_blocks.Reads as reads
-use Rattle.file.proofs.writing.fill_blocks.Lts as lts
-use Rattle.block.proofs.fill.Reads as fill-reads
-use Rattle.flow.proofs.blocks_for.Reads as blocks-for-reads
-use Rattle.octets.proofs.offset.Reads as offset-reads
 
 abbrev Inv-loop : tie.InvT-loop
-Inv-loop rows out₀ flow blocks index₀ out index = ?
+Inv-loop rows out₀ flow blocks index₀ out index =
+    (index ≤ blocks) × (length out ≡ length out₀)
+    × (out ≡ laid 512 (blockOf (flow .tasks) (flow .workers) (flow .cells) rows) (λ i. i) out₀ index)
 
 abbrev μ-loop : tie.MeasureT-loop
-μ-loop rows out₀ flow blocks index₀ out index = ?
+μ-loop rows out₀ flow blocks index₀ out index = blocks - index
 
--- src/writing.rt:62:9
 blocks-for-requires : tie.Need-blocks-for-requires Inv-loop μ-loop
-blocks-for-requires c κs = ?
+blocks-for-requires c κs = search needs
 
--- src/writing.rt:64:5
 loop-holds : tie.Need-loop-holds Inv-loop μ-loop
-loop-holds c = ?
+loop-holds c =
+    let a = c .before .before .before .args in (
+      search needs,
+      search needs,
+      laid-none 512 (blockOf (a .flow .tasks) (a .flow .workers) (a .flow .cells) (a .rows .now)) (λ i. i) (a .out .now),
+    )
 
--- src/writing.rt:65:35
 mul-offset : tie.Need-mul-offset Inv-loop μ-loop
-mul-offset c = ?
+mul-offset c = search needs
 
--- src/writing.rt:65:13
 offset-requires : tie.Need-offset-requires Inv-loop μ-loop
-offset-requires c κs = ?
+offset-requires c κs = search needs
 
--- src/writing.rt:66:36
 add-fill : tie.Need-add-fill Inv-loop μ-loop
-add-fill c = ?
+add-fill c = search needs
 
--- src/writing.rt:66:21
 sub-fill : tie.Need-sub-fill Inv-loop μ-loop
-sub-fill c = ?
+sub-fill c = search needs
 
--- src/writing.rt:66:21
 part-fill-start : tie.Need-part-fill-start Inv-loop μ-loop
-part-fill-start c = ?
+part-fill-start c = search needs
 
--- src/writing.rt:66:21
 part-fill-end : tie.Need-part-fill-end Inv-loop μ-loop
-part-fill-end c = ?
+part-fill-end c = search needs
 
--- src/writing.rt:66:9
 fill-requires : tie.Need-fill-requires Inv-loop μ-loop
-fill-requires c κs = ?
+fill-requires c κs = search needs
 
--- src/writing.rt:67:9
 add-index : tie.Need-add-index Inv-loop μ-loop
-add-index c = ?
+add-index c = search needs
 
--- src/writing.rt:64:5
 loop-less : tie.Need-loop-less Inv-loop μ-loop
-loop-less c = ?
+loop-less c = search needs
 
--- src/writing.rt:64:5
 loop-again : tie.Need-loop-again Inv-loop μ-loop
-loop-again c = ?
+loop-again c =
+    let a = c .before .before .before .before .before .before .before .before .before .before .args in
+    let l = c .before .before .before .before .before .before .loop in
+    let from = c .before .before .before .before .offset in (
+      search needs,
+      search needs,
+      laid-more 512 (blockOf (a .flow .tasks) (a .flow .workers) (a .flow .cells) (a .rows .now)) (λ i. i) (a .out .now)
+          (l .index) (from .result) (l .out) (c .before .before .fill .last .0)
+          (λ i m. block-long (a .flow .tasks) (a .flow .workers) (a .flow .cells) (a .rows .now) i (search needs) (search needs))
+          (l .inv .2)
+          (from .ensures)
+          (c .before .before .fill .ensures),
+    )
 
--- src/writing.rt:58:1
 same-length : tie.Need-same-length Inv-loop μ-loop
-same-length c = ?
+same-length c = c .before .loop .inv .1
 
--- src/writing.rt:58:1
 returns : tie.Need-returns Inv-loop μ-loop
-returns c = ?
+unfolding fileOf
+returns c =
+    let a = c .before .before .before .before .before .args in
+    let all : c .before .loop .index ≡ blocksFor (a .flow .tasks) = search needs in
+    c .before .loop .inv .2
+    ∙ ap (laid 512 (blockOf (a .flow .tasks) (a .flow .workers) (a .flow .cells) (a .rows .now)) (λ i. i) (a .out .now)) all
 
 pub fill-blocks-spec : {M : Type 1} → statement M
 fill-blocks-spec =

@@ -1,0 +1,57 @@
+-- `checking::file_met` meets its contract: length, blocks and rows are asked in the order of the definition, and each part
+-- stands within what the parts before it showed.
+use mathlib.Core.Path.{ap}
+use native.Mathlib.Omega.{arith}
+use borrow.Author.Needs.{needs}
+use lib.ListN.{length}
+use Rattle.file.specs.Answers.{answerOf}
+use Rattle.file.proofs.Whole.{Sound, unsound, is-sound}
+use Rattle.file.proofs.Order.{length-refused, BlocksMet, block-refused, row-answers, rows-within}
+use Rattle.file.proofs.checking.file_met.Statement.{statement}
+use Rattle.file.proofs.checking.file_met.Tie as tie
+
+whole-blocks-requires : tie.Need-whole-blocks-requires
+whole-blocks-requires c κs = search needs
+
+returns : tie.Need-returns
+returns c =
+    let file = c .before .before .before .args .file .now in
+    let blocks = c .before .whole-blocks in
+    ap answerOf (length-refused file (unsound 512 10240 (length file) (blocks .result) (blocks .ensures) (c .if1 .taken)))
+
+-- from here on, the file is whole blocks
+whole : (c : tie.Else1) → Sound 512 10240 (length (c .before .before .before .args .file .now)) (c .before .whole-blocks .result)
+whole c = is-sound 512 10240 _ _ (c .before .whole-blocks .ensures) (c .if1 .left)
+
+sizes-of-requires : tie.Need-sizes-of-requires
+sizes-of-requires c κs = omega (arith, whole c)
+
+blocks-met-requires : tie.Need-blocks-met-requires
+blocks-met-requires c κs = omega (arith, whole (c .before))
+
+-- and this is known once the blocks are checked
+known : (c : tie.After-blocks-met)
+    → BlocksMet (c .before .before .before .before .before .args .file .now) (c .before .before .before .whole-blocks .result)
+    (c .before .sizes-of .result) (c .blocks-met .result)
+known c = record { whole = whole (c .before .before); stated = c .before .sizes-of .ensures .0; found = c .blocks-met .ensures }
+
+returns-2 : tie.Need-returns-2
+returns-2 c = block-refused (known (c .before .before)) (c .if2 .taken)
+
+rows-met-requires : tie.Need-rows-met-requires
+rows-met-requires c κs = rows-within (known (c .before .before)) (c .if2 .left)
+
+returns-3 : tie.Need-returns-3
+returns-3 c = row-answers (known (c .before .before .before)) (c .before .if2 .left) (c .rows-met .ensures)
+
+pub file-met-spec : {M : Type 1} → statement M
+file-met-spec =
+    tie.close
+    (tie.spec
+    whole-blocks-requires
+    returns
+    sizes-of-requires
+    blocks-met-requires
+    returns-2
+    rows-met-requires
+    returns-3)
