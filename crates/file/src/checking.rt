@@ -12,7 +12,7 @@ ghost use Rattle.layout.specs.Flow.{inRange};
 ghost use Rattle.layout.specs.Refusal.{firstAt};
 ghost use Rattle.layout.specs.Row.{rowRefusal};
 ghost use Rattle.layout.specs.Block.{blocksFor, blockRefusal};
-ghost use Rattle.layout.specs.File.{blockAt, rowAt, rowStart, lengthSound, fileAnswer};
+ghost use Rattle.layout.specs.File.{blockAt, rowAt, lengthSound, fileAnswer};
 ghost use Rattle.file.specs.Answers.{answerOf};
 ghost use Rattle.file.specs.Promises.{CheckPromise};
 
@@ -30,15 +30,6 @@ fn whole_blocks(bytes: usize) -> u32
         return 0;
     }
     (bytes / 512) as u32
-}
-
-// Where a task's row stands in a file.
-pub fn row_start(task: u32) -> usize
-    requires { ⌜ (1 ≤ task) × (task ≤ 200) ⌝ }
-    ensures { λ r. ⌜ r ≡ rowStart task ⌝ }
-{
-    let before = task - 1;
-    octets::offset(512 * (before / 10) + 16 + 48 * (before % 10))
 }
 
 // The first refusal among the blocks.
@@ -71,7 +62,7 @@ fn rows_met(file: &[u8], sizes: Sizes) -> Answer
 {
     let mut task: u32 = 1;
     while task <= sizes.tasks {
-        let from = row_start(task);
+        let from = row::start(task);
         let number = row::refusal(&file[from..from + 48], sizes.workers, sizes.cells);
         if number != 0 {
             return Answer {

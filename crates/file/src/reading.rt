@@ -1,7 +1,6 @@
 // The reader: a file's rows, one after another, into lent bytes.
 use crate::ReadAnswer;
 use crate::checking::check;
-use crate::checking::row_start;
 ghost use mathlib.Core.Path.{_≡_};
 ghost use mathlib.Core.List.{_++_};
 ghost use Prim.Native.Nat.{ℕ, _+_, _*_, _≤_, _<_};
@@ -18,7 +17,7 @@ fn copy_rows(file: &[u8], rows: &mut [u8], tasks: u32)
 {
     let mut done: u32 = 0;
     while done < tasks {
-        let from = row_start(done + 1);
+        let from = row::start(done + 1);
         let to = octets::offset(48 * done);
         bytes::copy(&file[from..from + 48], &mut rows[to..to + 48]);
         done += 1;

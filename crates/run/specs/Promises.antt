@@ -20,7 +20,8 @@ runIs told =
       advanced = told .advanced;
       held = told .held;
       done = told .done;
-      finished = told .finished }
+      finished = told .finished;
+    }
 
 abbrev pub runRefused : Rules.Answer → RunAnswer
 runRefused met = record { number = met .number; place = met .place; advanced = 0; held = 0; done = 0; finished = 0 }

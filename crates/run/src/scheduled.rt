@@ -40,7 +40,15 @@ fn walk(file: &[u8], tasks: u32, workers: u32, cells: &mut [u32], schedule: &[u8
     let mut i = 0;
     while i < schedule.len() {
         let w = octets::index(schedule[i]);
-        let why = step(file, tasks, w, cells, &mut shared, &mut private, &mut places);
+        let why = step(
+            file,
+            tasks,
+            w,
+            cells,
+            &mut shared,
+            &mut private,
+            &mut places,
+        );
         if let Outcome::Advanced = why {
             advanced += 1;
         } else {

@@ -30,8 +30,8 @@ loop-holds c =
     let tasks : ℕ = c .before .args .sizes .tasks in
     (search needs, search needs, begun _ 1 (tasks + 1) tasks (search needs))
 
-row-start-requires : tie.Need-row-start-requires Inv-loop μ-loop
-row-start-requires c κs = search needs
+start-requires : tie.Need-start-requires Inv-loop μ-loop
+start-requires c κs = search needs
 
 add-refusal : tie.Need-add-refusal Inv-loop μ-loop
 add-refusal c = search needs
@@ -52,7 +52,7 @@ returns : tie.Need-returns Inv-loop μ-loop
 returns c =
     ap answerOf
     (refused _ _ _ _ (c .before .before .before .before .before .before .loop .inv .2) _ (search needs)
-    (rw (c .before .before .before .row-start .ensures) at (c .before .refusal .ensures)) (c .if2 .taken))
+    (rw (c .before .before .before .start .ensures) at (c .before .refusal .ensures)) (c .if2 .taken))
 
 add-task : tie.Need-add-task Inv-loop μ-loop
 add-task c = search needs
@@ -65,7 +65,7 @@ loop-again c = (
   search needs,
   search needs,
   passed _ _ _ _ (c .before .before .before .before .before .before .loop .inv .2) _ (search needs)
-      (rw (c .before .before .before .row-start .ensures) at (c .before .refusal .ensures)) (c .if2 .left),
+      (rw (c .before .before .before .start .ensures) at (c .before .refusal .ensures)) (c .if2 .left),
 )
 
 returns-2 : tie.Need-returns-2 Inv-loop μ-loop
@@ -78,7 +78,7 @@ rows-met-spec =
     Inv-loop
     μ-loop
     loop-holds
-    row-start-requires
+    start-requires
     add-refusal
     sub-refusal
     part-refusal-start

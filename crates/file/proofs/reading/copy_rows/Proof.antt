@@ -22,11 +22,11 @@ loop-holds c =
     let a = c .before .before .args in
     (search needs, search needs, laid-none 48 (rowAt (a .file .now)) (λ i. i + 1) (a .rows .now))
 
-add-row-start : tie.Need-add-row-start Inv-loop μ-loop
-add-row-start c = search needs
+add-start : tie.Need-add-start Inv-loop μ-loop
+add-start c = search needs
 
-row-start-requires : tie.Need-row-start-requires Inv-loop μ-loop
-row-start-requires c κs = search needs
+start-requires : tie.Need-start-requires Inv-loop μ-loop
+start-requires c κs = search needs
 
 mul-offset : tie.Need-mul-offset Inv-loop μ-loop
 mul-offset c = search needs
@@ -71,7 +71,7 @@ loop-again : tie.Need-loop-again Inv-loop μ-loop
 loop-again c =
     let a = c .before .before .before .before .before .before .before .before .before .before .before .args in
     let l = c .before .before .before .before .before .before .before .before .loop in
-    let from = c .before .before .before .before .before .before .row-start in
+    let from = c .before .before .before .before .before .before .start in
     let to = c .before .before .before .before .before .offset in
     let piece : List ℕ = c .before .before .copy .last .1 .0 in (
       search needs,
@@ -100,8 +100,8 @@ copy-rows-spec =
     Inv-loop
     μ-loop
     loop-holds
-    add-row-start
-    row-start-requires
+    add-start
+    start-requires
     mul-offset
     offset-requires
     add-copy
