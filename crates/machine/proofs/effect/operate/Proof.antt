@@ -1,4 +1,7 @@
 -- `machine::effect::operate` meets its contract: the bytes read are the operation's, and `value` is its effect.
+use mathlib.Core.Path.{_≡_}
+use Prim.Native.Nat.{_+_, _*_}
+use native.Mathlib.Omega.{arith}
 use borrow.Author.Needs.{needs}
 use Rattle.machine.proofs.effect.operate.Statement.{statement}
 use Rattle.machine.proofs.effect.operate.Tie as tie
@@ -86,8 +89,10 @@ returns c =
     let word = c .before .before .before in
     let read-b = word .before .before .before in
     let read-a = read-b .before .before in
+    let i = read-a .before .before .before .before .before .args .index in
+    let second : 16 + 6 * i + 1 ≡ 17 + 6 * i = omega arith in
     rw
-    (c .value .ensures, word .word .ensures .0, read-b .index2 .ensures .0, read-a .index .ensures .0)
+    (c .value .ensures, word .word .ensures .0, read-b .index2 .ensures .0, read-a .index .ensures .0, second)
 
 pub operate-spec : {M : Type 1} → statement M
 operate-spec =

@@ -1,7 +1,6 @@
 -- `machine::place::after_wait` meets its contract: the code makes the same two tests as the rule, in the same order.
 use borrow.Author.Needs.{needs}
 use borrow.Author.Tests.{lt-ltb, le-ltb}
-use lib.ListN.{getD}
 use Rattle.machine.proofs.place.after_wait.Statement.{statement}
 use Rattle.machine.proofs.place.after_wait.Tie as tie
 
