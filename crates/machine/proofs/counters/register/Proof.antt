@@ -110,22 +110,22 @@ loop-again c =
     let a = at .before .before .before .before .args in (
       omega arith,
       λ x.
-      rw (c .note .ensures)
-      (reads-noted (at .loop .private) (a .w) (read .index2 .result) (c .before .before .is-write .result) (a .number) (300000 + at .loop .j)
-      (300000 + (at .loop .j + 1))
-      (omega arith)
-      (at .loop .inv .1)
-      x),
+          rw (c .note .ensures)
+          (reads-noted (at .loop .private) (a .w) (read .index2 .result) (c .before .before .is-write .result) (a .number) (300000 + at .loop .j)
+          (300000 + (at .loop .j + 1))
+          (omega arith)
+          (at .loop .inv .1)
+          x),
       noted-next (a .row .now) (at .before .index .result) (a .w) (a .number) (at .loop .j) (read .index2 .result)
-      (c .before .before .is-write .result)
-      _
-      (at .loop .private)
-      (c .note .last .0)
-      (turn .loop-test .taken)
-      (read .index2 .ensures .0)
-      (c .before .before .is-write .ensures)
-      (c .note .ensures)
-      (at .loop .inv .2),
+          (c .before .before .is-write .result)
+          _
+          (at .loop .private)
+          (c .note .last .0)
+          (turn .loop-test .taken)
+          (read .index2 .ensures .0)
+          (c .before .before .is-write .ensures)
+          (c .note .ensures)
+          (at .loop .inv .2),
     )
 
 returns : tie.Need-returns Inv-loop μ-loop

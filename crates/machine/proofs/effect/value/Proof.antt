@@ -61,8 +61,14 @@ unfolding becomes
 returns-8 c =
     let code = c .before .args .code in
     let none = c .match .rest in
-    rw
-    (ne-eqb code 1 (none .0 .0 .0 .0 .0 .1), ne-eqb code 2 (none .0 .0 .0 .0 .1), ne-eqb code 3 (none .0 .0 .0 .1), ne-eqb code 4 (none .0 .0 .1), ne-eqb code 5 (none .0 .1), ne-eqb code 6 (none .1))
+    rw (
+      ne-eqb code 1 (none .0 .0 .0 .0 .0 .1),
+      ne-eqb code 2 (none .0 .0 .0 .0 .1),
+      ne-eqb code 3 (none .0 .0 .0 .1),
+      ne-eqb code 4 (none .0 .0 .1),
+      ne-eqb code 5 (none .0 .1),
+      ne-eqb code 6 (none .1),
+    )
 
 pub value-spec : {M : Type 1} → statement M
 value-spec =
