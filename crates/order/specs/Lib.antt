@@ -1,2 +1,3 @@
--- The words of demand 3: tasks that name a cell, conflict, and what is asked of tasks, numbers and effects.
+-- The words of demand 3, and its five statements.
 pub mod Conflict
+pub mod Demand
