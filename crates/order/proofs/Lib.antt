@@ -1,6 +1,21 @@
 -- The theorems of demand 3 and what they rest on.
+pub mod Along
+pub mod Kind
 pub mod Named
+pub mod Naming
+pub mod OnCell
+pub mod OwnSteps
+pub mod Passing
+pub mod Places
 pub mod Plain
 pub mod Protocol
+pub mod Put
+pub mod Registered
+pub mod Rows
 pub mod Scan
+pub mod Seen
+pub mod Sides
+pub mod Sums
+pub mod Total
 pub mod Values
+pub mod OwnMade

@@ -3,14 +3,9 @@
 use mathlib.Core.Path.{_≡_}
 use Prim.Native.Nat.{ℕ, zero, suc, _+_, _≤_}
 use Rattle.steps.specs.Machine.{put}
+pub use Rattle.order.proofs.Kind.{Kind, none, read, write, full}
 
 -- ---- a task's steps on the cell
-
--- what a task does with the cell
-pub data Kind : Type 0 where
-  none : Kind
-  read : Kind
-  write : Kind
 
 pub data Step : Type 0 where
   waitWrite : Step
@@ -19,12 +14,6 @@ pub data Step : Type 0 where
   zeroReads : Step
   postWrite : Step
   past : Step
-
--- how many steps a task makes: a read waits and ends; a write waits for the last write, waits for the reads, zeroes them and posts
-abbrev pub full : Kind → ℕ
-full none = 0
-full read = 2
-full write = 4
 
 -- the next one, after those made
 abbrev pub next : Kind → ℕ → Step
