@@ -1,5 +1,6 @@
 -- The theorems of demand 3 and what they rest on.
 pub mod Along
+pub mod Invariant
 pub mod Kind
 pub mod Named
 pub mod Naming
