@@ -74,7 +74,7 @@ module _ (s : Setting) (workers cells : ℕ) (keep : AllKeep workers cells (s .t
         standing = standing-fresh s some-access start;
         cells = λ c. subst (Inv (kinds s c) (s .number) (length (s .tasks)))
           (λ i. record {
-            stage = λ j. (sym (ap (stage (taskAt (s .tasks) j) c) (nothing-made _ j) ∙ stage-start (taskAt (s .tasks) j) c)) i;
+            stage = λ j. (sym (ap (stage (taskAt (s .tasks) j) c) (nothing-made (length (ownSteps (taskAt (s .tasks) j))) j) ∙ stage-start (taskAt (s .tasks) j) c)) i;
             lastWrite = s .number 0;
             reads = 0 })
           (inv-start (kinds s c) (s .number) (length (s .tasks)));
