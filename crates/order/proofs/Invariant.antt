@@ -15,7 +15,7 @@ use Rattle.steps.specs.Step.{Setting, Try, waitWrite, waitReads, operate, endRe
 use Rattle.order.specs.Conflict.{taskAt, Keeps, AllKeep, TellsApart}
 use Rattle.order.proofs.Kind.{full}
 use Rattle.order.proofs.OnCell.{on, stage, stage-start}
-use Rattle.order.proofs.OwnMade.{madeOf, made-here, made-yet, order, own-made-past}
+use Rattle.order.proofs.OwnMade.{made-none, own-made-past}
 use Rattle.order.proofs.Places.{Standing, standing-fresh, standing-kept, facing, Trying, Passes, afterOwn, StepView, past, other, held, view, change-places}
 use Rattle.order.proofs.Protocol.{inv-start, inv-step}
 use Rattle.order.proofs.Protocol.Words.{State, lastBefore, sumBefore}
@@ -64,9 +64,6 @@ module _ (s : Setting) (workers cells : ℕ) (keep : AllKeep workers cells (s .t
 
   -- ---- at the start
 
-  nothing-made : (steps j : ℕ) → madeOf steps j (place 0 0) ≡ 0
-  nothing-made steps j = order j 0 (λ l. absurd (omega arith)) (made-here steps j (place 0 0)) (made-yet steps j (place 0 0))
-
   pub kept-fresh : (start : List ℕ) → Kept s (fresh (s .number 0) start)
   unfolding some-access lastBefore sumBefore
   kept-fresh start =
@@ -74,7 +71,7 @@ module _ (s : Setting) (workers cells : ℕ) (keep : AllKeep workers cells (s .t
         standing = standing-fresh s some-access start;
         cells = λ c. subst (Inv (kinds s c) (s .number) (length (s .tasks)))
           (λ i. record {
-            stage = λ j. (sym (ap (stage (taskAt (s .tasks) j) c) (nothing-made (length (ownSteps (taskAt (s .tasks) j))) j) ∙ stage-start (taskAt (s .tasks) j) c)) i;
+            stage = λ j. (sym (ap (stage (taskAt (s .tasks) j) c) (made-none (length (ownSteps (taskAt (s .tasks) j))) j) ∙ stage-start (taskAt (s .tasks) j) c)) i;
             lastWrite = s .number 0;
             reads = 0 })
           (inv-start (kinds s c) (s .number) (length (s .tasks)));

@@ -1,5 +1,7 @@
 -- The theorems of demand 3 and what they rest on.
 pub mod Along
+pub mod Cells
+pub mod Complete
 pub mod Invariant
 pub mod Kind
 pub mod Named

@@ -11,8 +11,9 @@ use lib.ListN.{length, getD}
 use lib.Dec.{eqb, ltb}
 use Rattle.layout.specs.Flow.{Task}
 use Rattle.steps.specs.Machine.{Place, Machine, place, put}
-use Rattle.steps.specs.Step.{Setting, ownSteps, moved}
+use Rattle.steps.specs.Step.{Setting, Try, ownSteps, moved}
 use Rattle.order.specs.Conflict.{taskAt}
+use Rattle.order.proofs.Places.{facing, Trying, afterOwn, change-places}
 use Rattle.order.proofs.Put.{put-here, put-other}
 
 -- those of the task at an index, of so many, where its owner stands at a place
@@ -36,6 +37,11 @@ order {A} i j before at after = go (ltb i j) refl (eqb i j) refl
     go true p e q = before (ltb-true i j p)
     go false p true q = at (eqb-true i j q)
     go false p false q = after (omega (arith, ltb-false i j p, eqb-false i j q))
+
+-- nothing is made at the start
+pub made-none : (steps index : ℕ) → madeOf steps index (place 0 0) ≡ 0
+made-none steps index =
+    order index 0 (λ l. absurd (omega arith)) (made-here steps index (place 0 0)) (made-yet steps index (place 0 0))
 
 -- ---- after a step of the owner
 
@@ -66,7 +72,7 @@ abbrev pub ownMade : List Task → (ℕ → Place) → ℕ → ℕ
 ownMade tasks places j = madeOf (length (ownSteps (taskAt tasks j))) j (places (taskAt tasks j .owner))
 
 -- the worker's own task, one step on
-pub own-made-on : (tasks : List Task) (places : ℕ → Place) (w : ℕ) → taskAt tasks (places w .passed) .owner ≡ w
+own-made-on : (tasks : List Task) (places : ℕ → Place) (w : ℕ) → taskAt tasks (places w .passed) .owner ≡ w
     → places w .made < length (ownSteps (taskAt tasks (places w .passed)))
     → (j : ℕ)
     → ownMade tasks (put places w (moved (taskAt tasks (places w .passed)) (places w))) j
@@ -122,3 +128,21 @@ own-made-past tasks places w others none j = at (eqb (taskAt tasks j .owner) w) 
         ∙ made-on steps j (places w .passed) (places w .made) (λ q. others (ap (λ (i : ℕ). taskAt tasks i .owner) (sym q) ∙ o)) false
         ∙ ap (λ (v : ℕ). madeOf steps j (places v)) (sym o)
     at false e = ap (madeOf steps j) (put-other places w to (taskAt tasks j .owner) (eqb-false _ _ e))
+
+-- ---- after a step of the machine
+
+module _ (s : Setting) (m : Machine) (w : ℕ) (try : Try) (trying : Trying s m w try) where
+  -- the own steps made at the task where a worker stands
+  pub own-there : ownMade (s .tasks) (m .places) (m .places w .passed) ≡ m .places w .made
+  own-there =
+      ap (λ (v : ℕ). madeOf (length (ownSteps (facing s m w))) (m .places w .passed) (m .places v)) (trying .owns)
+      ∙ made-here (length (ownSteps (facing s m w))) (m .places w .passed) (m .places w) refl
+
+  -- and after it has made one more
+  pub own-then : (j : ℕ)
+      → ownMade (s .tasks) (afterOwn s m w try .places) j
+      ≡ put (ownMade (s .tasks) (m .places)) (m .places w .passed) (m .places w .made + 1) j
+  own-then j =
+      ap (λ (places : ℕ → Place). ownMade (s .tasks) (put places w (moved (facing s m w) (m .places w))) j)
+      (change-places s m w (s .number (m .places w .passed + 1)) try)
+      ∙ own-made-on (s .tasks) (m .places) w (trying .owns) (trying .unmade) j

@@ -17,8 +17,8 @@ use Rattle.order.specs.Conflict.{taskAt}
 use Rattle.order.proofs.Kind.{Kind, none, read, write, full}
 use Rattle.order.proofs.OnCell.{on, stage, next-on, next-off, next-step, next-below, NextOn, read-waits, read-ends, write-waits, write-waits-reads, write-zeroes, write-posts}
 use Rattle.order.proofs.Protocol.Words.{State, Allowed, after, next, lastWriteAfter, readsAfter}
-use Rattle.order.proofs.OwnMade.{madeOf, ownMade, own-made-on, made-here}
-use Rattle.order.proofs.Places.{facing, Trying, Passes, afterOwn, change-places}
+use Rattle.order.proofs.OwnMade.{ownMade, own-there, own-then}
+use Rattle.order.proofs.Places.{facing, Trying, Passes, afterOwn}
 use Rattle.order.proofs.Put.{put-here, put-other}
 use Rattle.order.proofs.Rows.{kinds, registeredBefore, RowIs, row-unended}
 
@@ -63,29 +63,15 @@ module _ (s : Setting) (m : Machine) (w : ℕ) (try : Try) (trying : Trying s m 
   p : ℕ
   p = m .places w .passed
 
-  -- the own steps made at the task, and those after this one
-  made-there : ownMade (s .tasks) (m .places) p ≡ m .places w .made
-  unfolding p
-  made-there =
-      ap (λ (v : ℕ). madeOf (length (ownSteps (facing s m w))) (m .places w .passed) (m .places v)) (trying .owns)
-      ∙ made-here (length (ownSteps (facing s m w))) (m .places w .passed) (m .places w) refl
-
-  made-then : (j : ℕ) → ownMade (s .tasks) (afterOwn s m w try .places) j ≡ put (ownMade (s .tasks) (m .places)) p (m .places w .made + 1) j
-  unfolding p
-  made-then j =
-      ap (λ (places : ℕ → Place). ownMade (s .tasks) (put places w (moved (facing s m w) (m .places w))) j)
-      (change-places s m w (s .number (m .places w .passed + 1)) try)
-      ∙ own-made-on (s .tasks) (m .places) w (trying .owns) (trying .unmade) j
-
   stage-there : seen s m c .stage p ≡ stage (facing s m w) c (m .places w .made)
   unfolding p
-  stage-there = ap (stage (facing s m w) c) made-there
+  stage-there = ap (stage (facing s m w) c) (own-there s m w try trying)
 
   -- a step on another cell is no step of the protocol
   pub seen-off : on c try ≡ false → seen s (afterOwn s m w try) c ≡ seen s m c
   unfolding p
   seen-off o =
-      same-state (λ j. ap (stage (taskAt (s .tasks) j) c) (made-then j) ∙ at j (eqb j p) refl)
+      same-state (λ j. ap (stage (taskAt (s .tasks) j) c) (own-then s m w try trying j) ∙ at j (eqb j p) refl)
       (ap (λ (k : Counter). k .lastWrite) (shared-off s _ c m w try o)) (ap (λ (k : Counter). k .reads) (shared-off s _ c m w try o))
     where
       at : (j : ℕ) (t : Bool) → eqb j p ≡ t
@@ -107,7 +93,7 @@ module _ (s : Setting) (m : Machine) (w : ℕ) (try : Try) (trying : Trying s m 
     unfolding p
     seen-on =
         let shared = shared-on s (s .number (m .places w .passed + 1)) c m w try (kinds s c p) (seen s m c .stage p) next-there in
-        same-state (λ j. ap (stage (taskAt (s .tasks) j) c) (made-then j) ∙ at j (eqb j p) refl)
+        same-state (λ j. ap (stage (taskAt (s .tasks) j) c) (own-then s m w try trying j) ∙ at j (eqb j p) refl)
         (ap (λ (k : Counter). k .lastWrite) shared
         ∙ ap (λ (n : ℕ). lastWriteAfter (next (kinds s c p) (seen s m c .stage p)) (s .number n) (m .shared c .lastWrite)) (add-one p))
         (ap (λ (k : Counter). k .reads) shared)
