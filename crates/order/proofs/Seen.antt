@@ -106,18 +106,32 @@ module _ (s : Setting) (m : Machine) (w : ℕ) (try : Try) (trying : Trying s m 
             (next-on (facing s m w) c (m .places w .made) (trying .here) o ∙ add-one _ ∙ ap suc (sym stage-there))
         at j false e = refl
 
-    -- and it is allowed
-    pub allowed-there : RowIs s w (m .places w) (m .private w) → Passes m w try → Allowed (kinds s c) (s .number) (seen s m c) (m .places w .passed)
-    unfolding p
-    allowed-there was passes = go next-there
-      where
-        row : m .private w c ≡ registeredBefore s c p
-        row = row-unended s w (m .places w) try _ (m .private w) (trying .owns) (trying .here) once was c (rw stage-there at below-there)
+    -- and it is allowed where the wait passes, and only there
+    module _ (was : RowIs s w (m .places w) (m .private w)) where
+      row-there : m .private w c ≡ registeredBefore s c (m .places w .passed)
+      unfolding p
+      row-there = row-unended s w (m .places w) try _ (m .private w) (trying .owns) (trying .here) once was c (rw stage-there at below-there)
 
-        go : NextOn (kinds s c p) c (seen s m c .stage p) try → Allowed (kinds s c) (s .number) (seen s m c) p
-        go (read-waits k n t) = rw (k, n) (sym (rw t at passes) ∙ ap (λ (x : Counter). x .lastWrite) row)
-        go (read-ends k n t) = rw (k, n) tt
-        go (write-waits k n t) = rw (k, n) (sym (rw t at passes) ∙ ap (λ (x : Counter). x .lastWrite) row)
-        go (write-waits-reads k n t) = rw (k, n) (sym (rw t at passes) ∙ ap (λ (x : Counter). x .reads) row)
-        go (write-zeroes k n t) = rw (k, n) tt
-        go (write-posts k n t) = rw (k, n) tt
+      pub allowed-there : Passes m w try → Allowed (kinds s c) (s .number) (seen s m c) (m .places w .passed)
+      unfolding p
+      allowed-there passes = go next-there
+        where
+          go : NextOn (kinds s c p) c (seen s m c .stage p) try → Allowed (kinds s c) (s .number) (seen s m c) p
+          go (read-waits k n t) = rw (k, n) (sym (rw t at passes) ∙ ap (λ (x : Counter). x .lastWrite) row-there)
+          go (read-ends k n t) = rw (k, n) tt
+          go (write-waits k n t) = rw (k, n) (sym (rw t at passes) ∙ ap (λ (x : Counter). x .lastWrite) row-there)
+          go (write-waits-reads k n t) = rw (k, n) (sym (rw t at passes) ∙ ap (λ (x : Counter). x .reads) row-there)
+          go (write-zeroes k n t) = rw (k, n) tt
+          go (write-posts k n t) = rw (k, n) tt
+
+      pub passes-there : Allowed (kinds s c) (s .number) (seen s m c) (m .places w .passed) → Passes m w try
+      unfolding p
+      passes-there allowed = go next-there
+        where
+          go : NextOn (kinds s c p) c (seen s m c .stage p) try → Passes m w try
+          go (read-waits k n t) = rw t (ap (λ (x : Counter). x .lastWrite) row-there ∙ sym (rw (k, n) at allowed))
+          go (read-ends k n t) = rw t tt
+          go (write-waits k n t) = rw t (ap (λ (x : Counter). x .lastWrite) row-there ∙ sym (rw (k, n) at allowed))
+          go (write-waits-reads k n t) = rw t (ap (λ (x : Counter). x .reads) row-there ∙ sym (rw (k, n) at allowed))
+          go (write-zeroes k n t) = rw t tt
+          go (write-posts k n t) = rw t tt
