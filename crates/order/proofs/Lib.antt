@@ -5,6 +5,7 @@ pub mod Cells
 pub mod Complete
 pub mod Invariant
 pub mod Kind
+pub mod Modes
 pub mod Named
 pub mod Naming
 pub mod OnCell
@@ -20,6 +21,7 @@ pub mod Scan
 pub mod Seen
 pub mod Sides
 pub mod Sums
+pub mod Told
 pub mod Total
 pub mod Values
 pub mod OwnMade
