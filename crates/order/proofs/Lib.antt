@@ -3,6 +3,7 @@ pub mod Advance
 pub mod Along
 pub mod Cells
 pub mod Complete
+pub mod Demand3
 pub mod Invariant
 pub mod Kind
 pub mod Modes

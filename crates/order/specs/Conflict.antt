@@ -1,13 +1,12 @@
 -- The words of demand 3 (the mission; 01, "The steps"): which tasks name a cell, which are in conflict on it, and what the theorems
 -- ask of a list of tasks, of the numbers of its tasks and of what operations do. An accepted flow has all of it.
 use mathlib.Core.Path.{_≡_}
-use mathlib.Core.Bool.{Bool, true, false, _&&_, _||_}
+use mathlib.Core.Bool.{Bool, true, false, _||_}
 use mathlib.Core.List.{List, []}
 use Prim.Native.Nat.{ℕ, _<_, _≤_}
 use lib.ListN.{length, getD}
-use lib.Dec.{T}
 use Rattle.layout.specs.Flow.{Access, Operation, Task}
-use Rattle.layout.specs.Row.{names, modeOf, mayWrite, readsA, readsB, namedOnce, accessInRange}
+use Rattle.layout.specs.Row.{names, modeOf, mayWrite, readsB, namedOnce, accessInRange}
 use Rattle.layout.specs.Lists.{all}
 use Rattle.steps.specs.Operations.{Effect}
 
@@ -39,15 +38,13 @@ pub record Conflict (one other : Task) (cell : ℕ) : Type 0 where
   pub written : (declaresWritten one cell || declaresWritten other cell) ≡ true
 
 -- what is asked of a task: an owner among the workers, an access at least, cells within range and named once, and operations that
--- write and read only cells that the task declares so
+-- write only cells that the task declares written and read only cells that it names
 pub record Keeps (workers cells : ℕ) (task : Task) : Type 0 where
   pub owned : task .owner < workers
   pub some-access : 1 ≤ length (task .accesses)
   pub in-range : all (accessInRange cells) (task .accesses) ≡ true
   pub named-once : namedOnce (task .accesses) ≡ true
   pub writes : (i : ℕ) → i < length (task .operations) → declaresWritten task (operationOf task i .a) ≡ true
-  pub reads-a : (i : ℕ) → i < length (task .operations) → readsA (operationOf task i .code) ≡ true
-      → namesCell task (operationOf task i .a) ≡ true
   pub reads-b : (i : ℕ) → i < length (task .operations) → readsB (operationOf task i .code) ≡ true
       → namesCell task (operationOf task i .b) ≡ true
 
@@ -59,7 +56,6 @@ pub record AllKeep (workers cells : ℕ) (tasks : List Task) : Type 0 where
 pub record TellsApart (tasks : List Task) (number : ℕ → ℕ) : Type 0 where
   pub apart : (i j : ℕ) → i ≤ length tasks → j ≤ length tasks → number i ≡ number j → i ≡ j
 
--- what an operation does depends on the cells that its code reads, and on no other
+-- what an operation does depends on cell b only where its code reads b. (Cell a is always declared, since it is written)
 pub record ReadsOnly (does : Effect) : Type 0 where
-  pub but-a : (o : Operation) (a a′ b : ℕ) → readsA (o .code) ≡ false → does o a b ≡ does o a′ b
   pub but-b : (o : Operation) (a b b′ : ℕ) → readsB (o .code) ≡ false → does o a b ≡ does o a b′
