@@ -1,0 +1,2 @@
+-- Laws of the machine that the arrays stand for, which the proofs of the code cite.
+pub mod Places
