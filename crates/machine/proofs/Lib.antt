@@ -1,2 +1,3 @@
 -- Laws of the machine that the arrays stand for, which the proofs of the code cite.
 pub mod Places
+pub mod Machines
