@@ -93,7 +93,7 @@ module _ {A : Type 0} (l : List A) (k : ℕ) (x : A) (rest : List A) (e : drop k
   shown-next : drop (k + 1) l ≡ rest
   shown-next = sym (drop-drop 1 k l) ∙ ap (drop 1) e
 
-  shown-within : k < length l
+  pub shown-within : k < length l
   shown-within = let size : length l - k ≡ suc (length rest) = sym (length-drop k l) ∙ ap length e in omega arith
 
 -- and so it does of what is made of each element
@@ -106,7 +106,7 @@ shown-made f (y ∷ l) (suc k) x rest after e = shown-made f l k x rest after e
 -- ---- the task that stands in a row
 
 module _ (row : List ℕ) where
-  access-count : length (taskOf row .accesses) ≡ getD row 1 0
+  pub access-count : length (taskOf row .accesses) ≡ getD row 1 0
   unfolding taskOf
   access-count = each-length (getD row 1 0) (accessAt row)
 
