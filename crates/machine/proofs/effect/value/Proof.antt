@@ -1,58 +1,74 @@
+-- `machine::effect::value` meets its contract: in the arm of each code the value is the one that the rules have under that code.
+use mathlib.Core.Path.{_≡_}
+use Prim.Native.Nat.{ℕ, _+_, _-_, _%_, _^_, _<_}
+use native.Mathlib.Omega.{arith}
 use borrow.Author.Needs.{needs}
+use borrow.Author.Tests.{ne-eqb}
+use Rattle.steps.specs.Operations.{becomes}
 use Rattle.machine.proofs.effect.value.Statement.{statement}
 use Rattle.machine.proofs.effect.value.Tie as tie
-use Rattle.machine.proofs.effect.value.Reads as reads
-use Rattle.machine.proofs.effect.value.Lts as lts
-use Rattle.std.proofs.num.wrapping_add_u32.Reads as wrapping-add-u32-reads
-use Rattle.std.proofs.num.wrapping_sub_u32.Reads as wrapping-sub-u32-reads
 
--- src/effect.rt:15:14
 wrapping-add-u32-requires : tie.Need-wrapping-add-u32-requires
 wrapping-add-u32-requires c κs = search needs
 
--- src/effect.rt:16:14
 wrapping-sub-u32-requires : tie.Need-wrapping-sub-u32-requires
 wrapping-sub-u32-requires c κs = search needs
 
--- src/effect.rt:17:14
 mul-result : tie.Need-mul-result
 mul-result c = search needs
 
--- src/effect.rt:17:14
 add-result : tie.Need-add-result
 add-result c = search needs
 
--- src/effect.rt:9:1
 returns : tie.Need-returns
-returns c = ?
+unfolding becomes
+returns c = rw (c .match .keys1)
 
--- src/effect.rt:9:1
 returns-2 : tie.Need-returns-2
-returns-2 c = ?
+unfolding becomes
+returns-2 c = rw (c .match .keys2)
 
--- src/effect.rt:9:1
 returns-3 : tie.Need-returns-3
-returns-3 c = ?
+unfolding becomes
+returns-3 c = rw (c .before .match .keys3) (c .wrapping-add-u32 .ensures)
 
--- src/effect.rt:9:1
+-- the number that b added to wraps back to a
+wraps : (r a b : ℕ) → r < 2 ^ 32 → b < 2 ^ 32 → (r + b) % 2 ^ 32 ≡ a → r ≡ (a + (2 ^ 32 - b)) % 2 ^ 32
+wraps r a b hr hb e = omega arith
+
 returns-4 : tie.Need-returns-4
-returns-4 c = ?
+unfolding becomes
+returns-4 c =
+    let start = c .before .before in
+    rw (c .before .match .keys4)
+    (wraps (c .wrapping-sub-u32 .result) (start .args .a) (start .args .b) (c .wrapping-sub-u32 .ok) (start .fits .b .fits)
+    (c .wrapping-sub-u32 .ensures))
 
--- src/effect.rt:9:1
 returns-5 : tie.Need-returns-5
-returns-5 c = ?
+unfolding becomes
+returns-5 c = rw (c .match .keys5)
 
--- src/effect.rt:9:1
 returns-6 : tie.Need-returns-6
-returns-6 c = ?
+unfolding becomes
+returns-6 c = rw (c .before .match .keys6) (omega arith)
 
--- src/effect.rt:9:1
 returns-7 : tie.Need-returns-7
-returns-7 c = ?
+unfolding becomes
+returns-7 c = rw (c .before .match .keys6) (omega arith)
 
--- src/effect.rt:9:1
 returns-8 : tie.Need-returns-8
-returns-8 c = ?
+unfolding becomes
+returns-8 c =
+    let code = c .before .args .code in
+    let none = c .match .rest in
+    rw (
+      ne-eqb code 1 (none .0 .0 .0 .0 .0 .1),
+      ne-eqb code 2 (none .0 .0 .0 .0 .1),
+      ne-eqb code 3 (none .0 .0 .0 .1),
+      ne-eqb code 4 (none .0 .0 .1),
+      ne-eqb code 5 (none .0 .1),
+      ne-eqb code 6 (none .1),
+    )
 
 pub value-spec : {M : Type 1} → statement M
 value-spec =

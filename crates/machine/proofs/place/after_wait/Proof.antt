@@ -1,41 +1,32 @@
+-- `machine::place::after_wait` meets its contract: the code makes the same two tests as the rule, in the same order.
 use borrow.Author.Needs.{needs}
+use borrow.Author.Tests.{lt-ltb, le-ltb}
 use Rattle.machine.proofs.place.after_wait.Statement.{statement}
 use Rattle.machine.proofs.place.after_wait.Tie as tie
-use Rattle.machine.proofs.place.after_wait.Reads as reads
-use Rattle.machine.proofs.place.after_wait.Lts as lts
-use Rattle.octets.proofs.wide.Reads as wide-reads
 
--- src/place.rt:15:8
 add-if1 : tie.Need-add-if1
 add-if1 c = search needs
 
--- src/place.rt:15:33
 shared-slice-read-wide : tie.Need-shared-slice-read-wide
 shared-slice-read-wide c = search needs
 
--- src/place.rt:15:20
 wide-requires : tie.Need-wide-requires
 wide-requires c κs = search needs
 
--- src/place.rt:16:28
 add-t9 : tie.Need-add-t9
 add-t9 c = search needs
 
--- src/place.rt:16:9
 returns : tie.Need-returns
-returns c = ?
+returns c = rw (← c .before .wide .ensures .0, lt-ltb _ _ (c .if1 .taken))
 
--- src/place.rt:18:12
 shared-slice-read-if2 : tie.Need-shared-slice-read-if2
 shared-slice-read-if2 c = search needs
 
--- src/place.rt:19:9
 returns-2 : tie.Need-returns-2
-returns-2 c = ?
+returns-2 c = rw (← c .before .before .before .wide .ensures .0, le-ltb _ _ (c .before .before .if1 .left), lt-ltb _ _ (c .if2 .taken))
 
--- src/place.rt:11:1
 returns-3 : tie.Need-returns-3
-returns-3 c = ?
+returns-3 c = rw (← c .before .before .before .wide .ensures .0, le-ltb _ _ (c .before .before .if1 .left), le-ltb _ _ (c .if2 .left))
 
 pub after-wait-spec : {M : Type 1} → statement M
 after-wait-spec =

@@ -1,69 +1,74 @@
+-- `machine::place::next` meets its contract: the stage picks the rule's clause, and what is called or answered there is that clause's place.
+use mathlib.Core.Path.{_≡_, sym}
+use Prim.Native.Nat.{_<_}
+use native.Mathlib.Omega.{arith}
 use borrow.Author.Needs.{needs}
+use Rattle.layout.specs.Row.{accessAt}
+use Rattle.steps.specs.Step.{writes}
+use Rattle.machine.specs.Arrays.{nextPlace}
 use Rattle.machine.proofs.place.next.Statement.{statement}
 use Rattle.machine.proofs.place.next.Tie as tie
-use Rattle.machine.proofs.place.next.Reads as reads
-use Rattle.machine.proofs.place.next.Lts as lts
-use Rattle.machine.proofs.counters.is_write.Reads as is-write-reads
-use Rattle.machine.proofs.place.after_end.Reads as after-end-reads
-use Rattle.machine.proofs.place.after_operation.Reads as after-operation-reads
-use Rattle.machine.proofs.place.after_wait.Reads as after-wait-reads
-use Rattle.octets.proofs.offset.Reads as offset-reads
 
--- src/place.rt:53:9
 after-operation-requires : tie.Need-after-operation-requires
 after-operation-requires c κs = search needs
 
--- src/place.rt:53:9
 returns : tie.Need-returns
-returns c = ?
+returns c = rw (c .before .if1 .taken) (c .after-operation .ensures)
 
--- src/place.rt:55:31
 offset-requires : tie.Need-offset-requires
 offset-requires c κs = search needs
 
--- src/place.rt:55:9
+-- at any other stage the index is one of an access
+few : (c : tie.Else1) → c .before .before .args .index < 4
+few c = c .before .before .pre .1 (c .if1 .left)
+
 is-write-requires : tie.Need-is-write-requires
-is-write-requires c κs = ?
+is-write-requires c κs = omega (arith, few (c .before))
 
--- src/place.rt:61:17
 after-wait-requires : tie.Need-after-wait-requires
-after-wait-requires c κs = ?
+after-wait-requires c κs = omega (arith, few (c .before .before .before .before))
 
--- src/place.rt:64:14
 after-wait-requires-2 : tie.Need-after-wait-requires-2
-after-wait-requires-2 c κs = ?
+after-wait-requires-2 c κs = omega (arith, few (c .before .before .before))
 
--- src/place.rt:69:17
 after-end-requires : tie.Need-after-end-requires
-after-end-requires c κs = ?
+after-end-requires c κs = omega (arith, few (c .before .before .before .before))
 
--- src/place.rt:72:14
 after-end-requires-2 : tie.Need-after-end-requires-2
-after-end-requires-2 c κs = ?
+after-end-requires-2 c κs = omega (arith, few (c .before .before .before))
 
--- src/place.rt:47:1
+-- the flag tells whether that access is a write
+asked : (c : tie.After-is-write)
+    → writes (accessAt (c .before .before .before .before .args .row .now) (c .before .before .before .before .args .index)) ≡ c .is-write .result
+asked c = rw (c .before .offset .ensures) at (sym (c .is-write .ensures))
+
 returns-2 : tie.Need-returns-2
-returns-2 c = ?
+unfolding nextPlace
+returns-2 c = rw (c .before .match .keys1, asked (c .before .before), c .if2 .taken)
 
--- src/place.rt:47:1
 returns-3 : tie.Need-returns-3
-returns-3 c = ?
+unfolding nextPlace
+returns-3 c =
+    rw (c .before .before .match .keys1, asked (c .before .before .before), c .before .if2 .left) (c .after-wait .ensures)
 
--- src/place.rt:47:1
 returns-4 : tie.Need-returns-4
-returns-4 c = ?
+unfolding nextPlace
+returns-4 c = rw (c .before .match .keys2) (c .after-wait2 .ensures)
 
--- src/place.rt:47:1
 returns-5 : tie.Need-returns-5
-returns-5 c = ?
+unfolding nextPlace
+returns-5 c = rw (c .before .match .keys3, asked (c .before .before), c .if3 .taken)
 
--- src/place.rt:47:1
 returns-6 : tie.Need-returns-6
-returns-6 c = ?
+unfolding nextPlace
+returns-6 c =
+    rw (c .before .before .match .keys3, asked (c .before .before .before), c .before .if3 .left) (c .after-end .ensures)
 
--- src/place.rt:47:1
 returns-7 : tie.Need-returns-7
-returns-7 c = ?
+unfolding nextPlace
+returns-7 c =
+    let last : c .before .before .before .before .before .before .args .stage ≡ 4 = omega arith in
+    rw last (c .after-end2 .ensures)
 
 pub next-spec : {M : Type 1} → statement M
 next-spec =

@@ -1,147 +1,164 @@
+-- `machine::stepping::held` meets its contract: only the two waits can be held, and the code compares the counters that the rule compares.
+use mathlib.Core.Path.{_≡_, refl}
+use mathlib.Core.Bool.{Bool, true, false, cond}
+use mathlib.Core.List.{List}
+use Prim.Native.Nat.{ℕ, zero, suc, _+_, _*_, _<_, _≤_}
+use native.Mathlib.Omega.{arith}
 use borrow.Author.Needs.{needs}
+use borrow.Author.Tests.{eq-eqb, ne-eqb}
+use lib.ListN.{getD}
+use Rattle.layout.specs.Row.{accessAt}
+use Rattle.steps.specs.Machine.{Machine}
+use Rattle.steps.specs.Step.{advanced, outcome, endRead, zeroReads, writes}
+use Rattle.machine.specs.Arrays.{tryAt}
 use Rattle.machine.proofs.stepping.held.Statement.{statement}
 use Rattle.machine.proofs.stepping.held.Tie as tie
-use Rattle.machine.proofs.stepping.held.Reads as reads
-use Rattle.machine.proofs.stepping.held.Lts as lts
-use Rattle.octets.proofs.index.Reads as index-reads
-use Rattle.octets.proofs.offset.Reads as offset-reads
-use Rattle.octets.proofs.wide.Reads as wide-reads
 
--- src/stepping.rt:27:9
+-- an end advances
+ends : (m : Machine) (w : ℕ) (write : Bool) (cell : ℕ) → advanced ≡ outcome m w (cond write (zeroReads cell) (endRead cell))
+unfolding outcome
+ends m w true cell = refl
+ends m w false cell = refl
+
+-- so does every step but a wait
+advances : (m : Machine) (w : ℕ) (row : List ℕ) (stage index : ℕ) → 2 ≤ stage → advanced ≡ outcome m w (tryAt row stage index)
+unfolding outcome tryAt
+advances m w row zero index h = absurd (omega arith)
+advances m w row (suc zero) index h = absurd (omega arith)
+advances m w row (suc (suc zero)) index h = refl
+advances m w row (suc (suc (suc zero))) index h = ends m w (writes (accessAt row index)) (accessAt row index .cell)
+advances m w row (suc (suc (suc (suc stage)))) index h = refl
+
 returns : tie.Need-returns
-returns c = ?
+returns c = let a = c .before .before .args in advances _ (a .w) (a .row .now) (a .stage) (a .index) (c .if1 .taken)
 
--- src/stepping.rt:29:9
 offset-requires : tie.Need-offset-requires
 offset-requires c κs = search needs
 
--- src/stepping.rt:30:38
 mul-index : tie.Need-mul-index
 mul-index c = search needs
 
--- src/stepping.rt:30:34
 add-index : tie.Need-add-index
 add-index c = search needs
 
--- src/stepping.rt:30:30
-shared-slice-read-index : tie.Need-shared-slice-read-index
-shared-slice-read-index c = ?
+-- at a wait the index is one of an access, and its cell has a counter
+known : (c : tie.Else1)
+    → (c .before .before .args .index < 4) × (accessAt (c .before .before .args .row .now) (c .before .before .args .index) .cell < 32)
+known c = c .before .before .pre .1 (c .if1 .left)
 
--- src/stepping.rt:30:9
+-- the cell that is read
+cell-is : (c : tie.After-index)
+    → c .index .result ≡ getD (c .before .before .before .before .before .args .row .now) (4 + 2 * c .before .before .before .before .before .args .index) 0
+cell-is c = rw (c .before .before .offset .ensures) at (c .index .ensures .0)
+
+within : (c : tie.After-index) → c .index .result < 32
+within c = rw (cell-is c) (known (c .before .before .before) .1)
+
+shared-slice-read-index : tie.Need-shared-slice-read-index
+shared-slice-read-index c = omega (arith, known (c .before .before) .0)
+
 index-requires : tie.Need-index-requires
 index-requires c κs = search needs
 
--- src/stepping.rt:32:12
 mul-if3 : tie.Need-mul-if3
 mul-if3 c = search needs
 
--- src/stepping.rt:32:12
 mul-if3-2 : tie.Need-mul-if3-2
 mul-if3-2 c = search needs
 
--- src/stepping.rt:32:12
 index-1-if3 : tie.Need-index-1-if3
 index-1-if3 c = search needs
 
--- src/stepping.rt:32:12
 index-2-if3 : tie.Need-index-2-if3
-index-2-if3 c = ?
+index-2-if3 c = within (c .before)
 
--- src/stepping.rt:32:12
 index-3-if3 : tie.Need-index-3-if3
 index-3-if3 c = search needs
 
--- src/stepping.rt:32:35
 mul-if3-3 : tie.Need-mul-if3-3
 mul-if3-3 c = search needs
 
--- src/stepping.rt:32:35
 index-1-if3-2 : tie.Need-index-1-if3-2
-index-1-if3-2 c = ?
+index-1-if3-2 c = within (c .before .before)
 
--- src/stepping.rt:32:35
 index-2-if3-2 : tie.Need-index-2-if3-2
 index-2-if3-2 c = search needs
 
--- src/stepping.rt:33:13
 returns-2 : tie.Need-returns-2
-returns-2 c = ?
+unfolding outcome tryAt
+returns-2 c =
+    let read = c .before .before .before .before in
+    rw (c .before .before .before .if2 .taken, ← cell-is read, eq-eqb _ _ (c .if3 .taken))
 
--- src/stepping.rt:35:59
 mul-wide : tie.Need-mul-wide
 mul-wide c = search needs
 
--- src/stepping.rt:35:55
 add-wide : tie.Need-add-wide
 add-wide c = search needs
 
--- src/stepping.rt:35:51
 shared-slice-read-wide : tie.Need-shared-slice-read-wide
-shared-slice-read-wide c = ?
+shared-slice-read-wide c = omega (arith, known (c .before .before .before .before .before .before .before .before) .0)
 
--- src/stepping.rt:35:38
 wide-requires : tie.Need-wide-requires
 wide-requires c κs = search needs
 
--- src/stepping.rt:35:9
 returns-3 : tie.Need-returns-3
-returns-3 c = ?
+unfolding outcome tryAt
+returns-3 c =
+    let tested = c .before .before in
+    let read = tested .before .before .before .before in
+    rw (tested .before .before .before .if2 .taken, ← cell-is read, ne-eqb _ _ (tested .if3 .left), c .wide .ensures .0, read .index .ensures .0)
 
--- src/stepping.rt:37:8
 mul-if4 : tie.Need-mul-if4
 mul-if4 c = search needs
 
--- src/stepping.rt:37:8
 mul-if4-2 : tie.Need-mul-if4-2
 mul-if4-2 c = search needs
 
--- src/stepping.rt:37:8
 index-1-if4 : tie.Need-index-1-if4
 index-1-if4 c = search needs
 
--- src/stepping.rt:37:8
 index-2-if4 : tie.Need-index-2-if4
-index-2-if4 c = ?
+index-2-if4 c = within (c .before)
 
--- src/stepping.rt:37:8
 index-3-if4 : tie.Need-index-3-if4
 index-3-if4 c = search needs
 
--- src/stepping.rt:37:31
 mul-if4-3 : tie.Need-mul-if4-3
 mul-if4-3 c = search needs
 
--- src/stepping.rt:37:31
 index-1-if4-2 : tie.Need-index-1-if4-2
-index-1-if4-2 c = ?
+index-1-if4-2 c = within (c .before .before)
 
--- src/stepping.rt:37:31
 index-2-if4-2 : tie.Need-index-2-if4-2
 index-2-if4-2 c = search needs
 
--- src/stepping.rt:38:9
 returns-4 : tie.Need-returns-4
-returns-4 c = ?
+unfolding outcome tryAt
+returns-4 c =
+    let read = c .before .before .before .before in
+    let one : read .before .before .before .before .before .args .stage ≡ 1 = omega arith in
+    rw (one, ← cell-is read, eq-eqb _ _ (c .if4 .taken))
 
--- src/stepping.rt:40:47
 mul-wide-2 : tie.Need-mul-wide-2
 mul-wide-2 c = search needs
 
--- src/stepping.rt:40:43
 add-wide-2 : tie.Need-add-wide-2
 add-wide-2 c = search needs
 
--- src/stepping.rt:40:39
 shared-slice-read-wide-2 : tie.Need-shared-slice-read-wide-2
-shared-slice-read-wide-2 c = ?
+shared-slice-read-wide-2 c = omega (arith, known (c .before .before .before .before .before .before .before .before) .0)
 
--- src/stepping.rt:40:26
 wide-requires-2 : tie.Need-wide-requires-2
 wide-requires-2 c κs = search needs
 
--- src/stepping.rt:21:1
 returns-5 : tie.Need-returns-5
-returns-5 c = ?
+unfolding outcome tryAt
+returns-5 c =
+    let tested = c .before .before in
+    let read = tested .before .before .before .before in
+    let one : read .before .before .before .before .before .args .stage ≡ 1 = omega arith in
+    rw (one, ← cell-is read, ne-eqb _ _ (tested .if4 .left), c .wide2 .ensures .0, read .index .ensures .0)
 
 pub held-spec : {M : Type 1} → statement M
 held-spec =
