@@ -1,0 +1,122 @@
+-- What the code stores at a stage and an index is what the rules change at the own step tried there: a counter stored in the shared
+-- row, one noted in the worker's row, or the cells after an operation.
+use mathlib.Core.Path.{_≡_, refl, sym, ap, subst, _∙_}
+use mathlib.Core.Bool.{Bool, true, false, cond}
+use mathlib.Core.List.{List, [], _∷_}
+use Prim.Native.Nat.{ℕ, zero, suc, _+_, _<_, _≤_}
+use native.Mathlib.Omega.{arith}
+use lib.ListN.{length, getD, set}
+use Rattle.layout.specs.Row.{accessAt, operationAt}
+use Rattle.steps.specs.Operations.{effect, operated}
+use Rattle.steps.specs.Machine.{Counter, Machine, put, counter, withShared, withRow, withCells}
+use Rattle.steps.specs.Step.{Try, operate, endRead, zeroReads, postWrite, writes, afterRead, change}
+use Rattle.machine.specs.Arrays.{counterOf, counterAt, Arrays, arrays, machineOf, tryAt, Stands, noted, Shape, RowFits}
+use Rattle.machine.proofs.Machines.{shared-stored, shared-shape, row-replaced, noted-only}
+
+-- ---- where a worker can stand
+
+pub five-stages : (row : List ℕ) (stage index : ℕ) → Stands row stage index → stage < 5
+unfolding Stands
+five-stages row zero index h = omega arith
+five-stages row (suc zero) index h = omega arith
+five-stages row (suc (suc zero)) index h = omega arith
+five-stages row (suc (suc (suc zero))) index h = omega arith
+five-stages row (suc (suc (suc (suc zero)))) index h = omega arith
+five-stages row (suc (suc (suc (suc (suc stage))))) index h = absurd h
+
+-- at an operation the index is an operation's, elsewhere an access's
+pub at-operation : (row : List ℕ) (stage index : ℕ) → stage ≡ 2 → Stands row stage index → index < getD row 2 0
+unfolding Stands
+at-operation row stage index e h = subst (λ (s : ℕ). Stands row s index) e h
+
+pub at-access : (row : List ℕ) (stage index : ℕ) → (stage ≡ 2 → ⊥) → Stands row stage index → index < getD row 1 0
+unfolding Stands
+at-access row zero index other h = h
+at-access row (suc zero) index other h = h .0
+at-access row (suc (suc zero)) index other h = absurd (other refl)
+at-access row (suc (suc (suc zero))) index other h = h
+at-access row (suc (suc (suc (suc zero)))) index other h = h .0
+at-access row (suc (suc (suc (suc (suc stage))))) index other h = absurd h
+
+-- ---- what is stored there
+
+-- the cells and the counters after are what the rules change them to
+abbrev Changed : ℕ → ℕ → Arrays → Try → Arrays → Type 0
+Changed w number before try after =
+    Shape (after .shared) (after .private) × (machineOf [] after ≡ change effect number (machineOf [] before) w try)
+
+module _ (row : List ℕ) (w number index : ℕ) (cells : List ℕ) (shared : List (List ℕ)) (private : List (List (List ℕ))) (shape : Shape shared private) where
+  pub waited : (stage : ℕ) → stage < 2
+      → Changed w number (arrays cells shared private []) (tryAt row stage index) (arrays cells shared private [])
+  unfolding tryAt change
+  waited zero h = (shape, refl)
+  waited (suc zero) h = (shape, refl)
+  waited (suc (suc stage)) h = absurd (omega arith)
+
+  pub made : (stage : ℕ) (cells′ : List ℕ) → stage ≡ 2 → cells′ ≡ operated effect (operationAt row index) cells
+      → Changed w number (arrays cells shared private []) (tryAt row stage index) (arrays cells′ shared private [])
+  unfolding tryAt change
+  made stage cells′ e is =
+      let m = machineOf [] (arrays cells shared private []) in
+      (shape, ap (withCells m) is ∙ ap (λ (s : ℕ). change effect number m w (tryAt row s index)) (sym e))
+
+  module _ (cell : ℕ) (h : w < 8) (l : cell < 32) (here : cell ≡ accessAt row index .cell) where
+    -- a shared counter stored and an access noted
+    stored-noted : (numbers : List ℕ) (isWrite : Bool) (private′ : List (List (List ℕ))) → private′ ≡ noted private w cell isWrite number
+        → Shape (set shared cell numbers) private′
+        × (machineOf [] (arrays cells (set shared cell numbers) private′ [])
+        ≡ withRow (withShared (machineOf [] (arrays cells shared private [])) cell (counterOf numbers)) w
+        (put (counterAt (getD private w [])) cell (cond isWrite (counter number 0) (afterRead (counterAt (getD private w []) cell)))))
+    stored-noted numbers isWrite private′ is =
+        let shape′ = shared-shape shared private cell numbers shape in
+        let only = noted-only (set shared cell numbers) w number h private cell isWrite l shape′ in
+        let row′ = put (counterAt (getD private w [])) cell (cond isWrite (counter number 0) (afterRead (counterAt (getD private w []) cell))) in (
+          subst (Shape (set shared cell numbers)) (sym is) (only .shape),
+          ap (λ (p : List (List (List ℕ))). machineOf [] (arrays cells (set shared cell numbers) p [])) is
+          ∙ row-replaced [] cells (set shared cell numbers) private (noted private w cell isWrite number) [] w row′ only
+          ∙ ap (λ (m : Machine). withRow m w row′)
+          (shared-stored [] cells shared private [] cell numbers (omega (arith, shape .shared-size))),
+        )
+
+    -- a try that is reached by an equation
+    tried : (stage : ℕ) (try : Try) (m : Machine) → try ≡ tryAt row stage index
+        → m ≡ change effect number (machineOf [] (arrays cells shared private [])) w try
+        → m ≡ change effect number (machineOf [] (arrays cells shared private [])) w (tryAt row stage index)
+    tried stage try m e is = is ∙ ap (change effect number (machineOf [] (arrays cells shared private [])) w) e
+
+    pub posted : (stage : ℕ) (private′ : List (List (List ℕ))) → stage ≡ 4 → private′ ≡ noted private w cell true number
+        → Changed w number (arrays cells shared private []) (tryAt row stage index)
+        (arrays cells (set shared cell (number ∷ getD (getD shared cell []) 1 0 ∷ [])) private′ [])
+    unfolding tryAt change
+    posted stage private′ e is =
+        let both = stored-noted (number ∷ getD (getD shared cell []) 1 0 ∷ []) true private′ is in
+        (both .0, tried stage (postWrite cell) _ (ap postWrite here ∙ ap (λ (s : ℕ). tryAt row s index) (sym e)) (both .1))
+
+    -- the try of an access's first end
+    first-end : (stage : ℕ) (isWrite : Bool) → stage ≡ 3 → writes (accessAt row index) ≡ isWrite
+        → cond isWrite (zeroReads cell) (endRead cell) ≡ tryAt row stage index
+    unfolding tryAt
+    first-end stage isWrite e t =
+        ap (λ (c : ℕ). cond isWrite (zeroReads c) (endRead c)) here
+        ∙ ap (λ (b : Bool). cond b (zeroReads (accessAt row index .cell)) (endRead (accessAt row index .cell))) (sym t)
+        ∙ ap (λ (s : ℕ). tryAt row s index) (sym e)
+
+    pub zeroed : (stage : ℕ) → stage ≡ 3 → writes (accessAt row index) ≡ true
+        → Changed w number (arrays cells shared private []) (tryAt row stage index)
+        (arrays cells (set shared cell (getD (getD shared cell []) 0 0 ∷ 0 ∷ [])) private [])
+    unfolding change
+    zeroed stage e t =
+        let numbers = getD (getD shared cell []) 0 0 ∷ 0 ∷ [] in (
+          shared-shape shared private cell numbers shape,
+          tried stage (zeroReads cell) _ (first-end stage true e t)
+          (shared-stored [] cells shared private [] cell numbers (omega (arith, shape .shared-size))),
+        )
+
+    pub read : (stage : ℕ) (private′ : List (List (List ℕ))) → stage ≡ 3 → writes (accessAt row index) ≡ false
+        → private′ ≡ noted private w cell false number
+        → Changed w number (arrays cells shared private []) (tryAt row stage index)
+        (arrays cells (set shared cell (getD (getD shared cell []) 0 0 ∷ (getD (getD shared cell []) 1 0 + 1) ∷ [])) private′ [])
+    unfolding change
+    read stage private′ e t is =
+        let both = stored-noted (getD (getD shared cell []) 0 0 ∷ (getD (getD shared cell []) 1 0 + 1) ∷ []) false private′ is in
+        (both .0, tried stage (endRead cell) _ (first-end stage false e t) (both .1))
