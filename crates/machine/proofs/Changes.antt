@@ -112,11 +112,11 @@ module _ (row : List ℕ) (w number index : ℕ) (cells : List ℕ) (shared : Li
           (shared-stored [] cells shared private [] cell numbers (omega (arith, shape .shared-size))),
         )
 
-    pub read : (stage : ℕ) (private′ : List (List (List ℕ))) → stage ≡ 3 → writes (accessAt row index) ≡ false
+    pub ended : (stage : ℕ) (private′ : List (List (List ℕ))) → stage ≡ 3 → writes (accessAt row index) ≡ false
         → private′ ≡ noted private w cell false number
         → Changed w number (arrays cells shared private []) (tryAt row stage index)
         (arrays cells (set shared cell (getD (getD shared cell []) 0 0 ∷ (getD (getD shared cell []) 1 0 + 1) ∷ [])) private′ [])
     unfolding change
-    read stage private′ e t is =
+    ended stage private′ e t is =
         let both = stored-noted (getD (getD shared cell []) 0 0 ∷ (getD (getD shared cell []) 1 0 + 1) ∷ []) false private′ is in
         (both .0, tried stage (endRead cell) _ (first-end stage false e t) (both .1))

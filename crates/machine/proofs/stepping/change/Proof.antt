@@ -1,4 +1,12 @@
+use mathlib.Core.Path.{_≡_, sym, ap, _∙_}
+use Prim.Native.Nat.{ℕ, _<_}
+use native.Mathlib.Omega.{arith}
 use borrow.Author.Needs.{needs}
+use lib.ListN.{getD}
+use Rattle.layout.specs.Row.{accessAt, operationAt}
+use Rattle.steps.specs.Operations.{effect, operated}
+use Rattle.steps.specs.Step.{writes}
+use Rattle.machine.proofs.Changes.{five-stages, at-operation, at-access, waited, made, posted, zeroed, ended}
 use Rattle.machine.proofs.stepping.change.Statement.{statement}
 use Rattle.machine.proofs.stepping.change.Tie as tie
 use Rattle.machine.proofs.stepping.change.Reads as reads
@@ -11,7 +19,10 @@ use Rattle.octets.proofs.offset.Reads as offset-reads
 
 -- src/stepping.rt:59:9
 returns : tie.Need-returns
-returns c = ?
+returns c =
+    let start = c .before .before .before in
+    let a = start .args in
+    waited (a .row .now) (a .w) (a .number) (a .index) (a .cells .now) (a .shared .now) (a .private .now) (start .pre .1 .0) (a .stage) (c .if1 .taken)
 
 -- src/stepping.rt:61:9
 offset-requires : tie.Need-offset-requires
@@ -19,7 +30,14 @@ offset-requires c κs = search needs
 
 -- src/stepping.rt:63:9
 operate-requires : tie.Need-operate-requires
-operate-requires c κs = ?
+operate-requires c κs =
+    let start = c .before .before .before .before .before .before in
+    let a = start .args in
+    let at : a .index < getD (a .row .now) 2 0 = at-operation (a .row .now) (a .stage) (a .index) (c .before .if2 .taken) (start .pre .0 .1) in
+    rw (c .before .before .offset .ensures) (
+      (start .pre .0 .0 .size, omega (arith, start .pre .0 .0 .few-operations)),
+      (start .pre .0 .0 .writes-cells (a .index) at, start .pre .0 .0 .reads-cells (a .index) at),
+    )
 
 -- src/stepping.rt:64:9
 same-length : tie.Need-same-length
@@ -27,7 +45,30 @@ same-length c = search needs
 
 -- src/stepping.rt:64:9
 returns-2 : tie.Need-returns-2
-returns-2 c = ?
+returns-2 c =
+    let start = c .before .before .before .before .before .before .before .before .before in
+    let a = start .args in
+    let operation = ap (λ (i : ℕ). operated effect (operationAt (a .row .now) i) (a .cells .now)) (c .before .before .before .before .before .offset .ensures) in
+    made (a .row .now) (a .w) (a .number) (a .index) (a .cells .now) (a .shared .now) (a .private .now) (start .pre .1 .0) (a .stage) (c .before .before .operate .last .1 .1 .0) (c .before .before .before .before .if2 .taken)
+    (c .before .before .operate .ensures ∙ operation)
+
+-- past the operations the index is an access's
+access-index : (c : tie.Else2)
+    → c .before .before .before .before .before .args .index < getD (c .before .before .before .before .before .args .row .now) 1 0
+access-index c =
+    let start = c .before .before .before .before .before in
+    let a = start .args in
+    at-access (a .row .now) (a .stage) (a .index) (c .if2 .left) (start .pre .0 .1)
+
+-- the cell that is read is the access's, and it has a counter
+cell-is : (c : tie.After-index)
+    → c .index .result ≡ accessAt (c .before .before .before .before .before .before .before .args .row .now) (c .before .before .before .before .before .before .before .args .index) .cell
+cell-is c = rw (c .before .before .before .offset .ensures) at (c .index .ensures .0)
+
+within : (c : tie.After-index) → c .index .result < 32
+within c =
+    let start = c .before .before .before .before .before .before .before in
+    rw (cell-is c) (start .pre .0 .0 .access-cells (start .args .index) (access-index (c .before .before)))
 
 -- src/stepping.rt:66:38
 mul-index : tie.Need-mul-index
@@ -39,7 +80,10 @@ add-index c = search needs
 
 -- src/stepping.rt:66:30
 shared-slice-read-index : tie.Need-shared-slice-read-index
-shared-slice-read-index c = ?
+shared-slice-read-index c =
+    let start = c .before .before .before .before .before .before in
+    let a = start .args in
+    omega (arith, access-index (c .before), start .pre .0 .0 .size, start .pre .0 .0 .few-accesses)
 
 -- src/stepping.rt:66:9
 index-requires : tie.Need-index-requires
@@ -51,7 +95,7 @@ mul-last c = search needs
 
 -- src/stepping.rt:67:16
 index-1-last : tie.Need-index-1-last
-index-1-last c = ?
+index-1-last c = within c
 
 -- src/stepping.rt:67:16
 index-2-last : tie.Need-index-2-last
@@ -63,7 +107,7 @@ mul-reads c = search needs
 
 -- src/stepping.rt:68:17
 index-1-reads : tie.Need-index-1-reads
-index-1-reads c = ?
+index-1-reads c = within (c .before)
 
 -- src/stepping.rt:68:17
 index-2-reads : tie.Need-index-2-reads
@@ -75,19 +119,44 @@ mul-t31 c = search needs
 
 -- src/stepping.rt:70:9
 element-set-from-shared : tie.Need-element-set-from-shared
-element-set-from-shared c = ?
+element-set-from-shared c = within (c .before .before .before)
 
 -- src/stepping.rt:71:9
 note-requires : tie.Need-note-requires
-note-requires c κs = ?
+note-requires c κs =
+    let start = c .before .before .before .before .before .before .before .before .before .before .before in
+    let a = start .args in
+    let cell = c .before .before .before .before .index .result in
+    (start .pre .0 .2, within (c .before .before .before .before), omega (arith, start .pre .1 .1 .private-reads (a .w) cell))
 
 -- src/stepping.rt:72:9
 returns-3 : tie.Need-returns-3
-returns-3 c = ?
+returns-3 c =
+    let start = c .before .before .before .before .before .before .before .before .before .before .before .before in
+    let a = start .args in
+    let read = c .before .before .before .before .before in
+    posted (a .row .now) (a .w) (a .number) (a .index) (a .cells .now) (a .shared .now) (a .private .now) (start .pre .1 .0) (read .index .result) (start .pre .0 .2) (within read) (cell-is read) (a .stage) (c .note .last .0) (c .before .before .if3 .taken) (c .note .ensures)
 
 -- src/stepping.rt:74:8
 is-write-requires : tie.Need-is-write-requires
-is-write-requires c κs = ?
+is-write-requires c κs =
+    let start = c .before .before .before .before .before .before .before .before .before .before in
+    let a = start .args in
+    rw (c .before .before .before .before .before .before .offset .ensures) (start .pre .0 .0 .size, omega (arith, access-index (c .before .before .before .before .before), start .pre .0 .0 .few-accesses))
+
+-- past the last of the other stages it is the first end
+third : (c : tie.Else3) → c .before .before .before .before .before .before .before .before .before .before .args .stage ≡ 3
+third c =
+    let start = c .before .before .before .before .before .before .before .before .before .before in
+    let a = start .args in
+    omega (arith, five-stages (a .row .now) (a .stage) (a .index) (start .pre .0 .1), c .before .before .before .before .before .if2 .left)
+
+mode-is : (c : tie.After-is-write)
+    → writes (accessAt (c .before .before .before .before .before .before .before .before .before .before .before .args .row .now) (c .before .before .before .before .before .before .before .before .before .before .before .args .index)) ≡ c .is-write .result
+mode-is c =
+    let a = c .before .before .before .before .before .before .before .before .before .before .before .args in
+    ap (λ (i : ℕ). writes (accessAt (a .row .now) i)) (sym (c .before .before .before .before .before .before .before .offset .ensures))
+    ∙ sym (c .is-write .ensures)
 
 -- src/stepping.rt:75:9
 mul-t38 : tie.Need-mul-t38
@@ -95,15 +164,22 @@ mul-t38 c = search needs
 
 -- src/stepping.rt:75:9
 element-set-from-shared-2 : tie.Need-element-set-from-shared-2
-element-set-from-shared-2 c = ?
+element-set-from-shared-2 c = within (c .before .before .before .before .before)
 
 -- src/stepping.rt:76:9
 returns-4 : tie.Need-returns-4
-returns-4 c = ?
+returns-4 c =
+    let start = c .before .before .before .before .before .before .before .before .before .before .before .before in
+    let a = start .args in
+    let read = c .before .before .before .before .before in
+    zeroed (a .row .now) (a .w) (a .number) (a .index) (a .cells .now) (a .shared .now) (a .private .now) (start .pre .1 .0) (read .index .result) (start .pre .0 .2) (within read) (cell-is read) (a .stage) (third (c .before .before)) (mode-is (c .before) ∙ c .if4 .taken)
 
 -- src/stepping.rt:78:27
 add-t25 : tie.Need-add-t25
-add-t25 c = ?
+add-t25 c =
+    let start = c .before .before .before .before .before .before .before .before .before .before .before .before in
+    let a = start .args in
+    omega (arith, start .pre .1 .1 .shared-reads (c .before .before .before .before .before .index .result))
 
 -- src/stepping.rt:78:5
 mul-t17 : tie.Need-mul-t17
@@ -111,15 +187,23 @@ mul-t17 c = search needs
 
 -- src/stepping.rt:78:5
 element-set-from-shared-3 : tie.Need-element-set-from-shared-3
-element-set-from-shared-3 c = ?
+element-set-from-shared-3 c = within (c .before .before .before .before .before)
 
 -- src/stepping.rt:79:5
 note-requires-2 : tie.Need-note-requires-2
-note-requires-2 c κs = ?
+note-requires-2 c κs =
+    let start = c .before .before .before .before .before .before .before .before .before .before .before .before .before in
+    let a = start .args in
+    let cell = c .before .before .before .before .before .before .index .result in
+    (start .pre .0 .2, within (c .before .before .before .before .before .before), omega (arith, start .pre .1 .1 .private-reads (a .w) cell))
 
 -- src/stepping.rt:44:1
 returns-5 : tie.Need-returns-5
-returns-5 c = ?
+returns-5 c =
+    let start = c .before .before .before .before .before .before .before .before .before .before .before .before .before .before in
+    let a = start .args in
+    let read = c .before .before .before .before .before .before .before in
+    ended (a .row .now) (a .w) (a .number) (a .index) (a .cells .now) (a .shared .now) (a .private .now) (start .pre .1 .0) (read .index .result) (start .pre .0 .2) (within read) (cell-is read) (a .stage) (c .note2 .last .0) (third (c .before .before .before .before)) (mode-is (c .before .before .before) ∙ c .before .before .if4 .left) (c .note2 .ensures)
 
 pub change-spec : {M : Type 1} → statement M
 change-spec =
