@@ -5,7 +5,9 @@ use mathlib.Core.Bool.{Bool, true, false, cond}
 use mathlib.Core.List.{List, [], _∷_}
 use Prim.Native.Nat.{ℕ, zero, suc, _+_, _<_, _≤_}
 use native.Mathlib.Omega.{arith}
+use borrow.Author.Tests.{eqb-true, eqb-false}
 use lib.ListN.{length, getD, set}
+use lib.Dec.{eqb}
 use Rattle.layout.specs.Row.{accessAt, operationAt}
 use Rattle.steps.specs.Operations.{effect, operated}
 use Rattle.steps.specs.Machine.{Counter, Machine, put, counter, withShared, withRow, withCells}
@@ -38,10 +40,24 @@ at-access row (suc (suc (suc zero))) index other h = h
 at-access row (suc (suc (suc (suc zero)))) index other h = h .0
 at-access row (suc (suc (suc (suc (suc stage))))) index other h = absurd h
 
+-- the numbers of a row that fits are small
+pub small-access : (row : List ℕ) (cells stage index : ℕ) → RowFits row cells → Stands row stage index → (stage ≡ 2 → ⊥)
+    → (index < 4) × (accessAt row index .cell < 32)
+small-access row cells stage index fits stands other =
+    let at : index < getD row 1 0 = at-access row stage index other stands in
+    (omega (arith, fits .few-accesses), fits .access-cells index at)
+
+pub small-index : (row : List ℕ) (cells stage index : ℕ) → RowFits row cells → Stands row stage index → index < 6
+small-index row cells stage index fits stands = go (eqb stage 2) refl
+  where
+    go : (same : Bool) → eqb stage 2 ≡ same → index < 6
+    go true t = omega (arith, at-operation row stage index (eqb-true stage 2 t) stands, fits .few-operations)
+    go false t = omega (arith, small-access row cells stage index fits stands (eqb-false stage 2 t) .0)
+
 -- ---- what is stored there
 
 -- the cells and the counters after are what the rules change them to
-abbrev Changed : ℕ → ℕ → Arrays → Try → Arrays → Type 0
+abbrev pub Changed : ℕ → ℕ → Arrays → Try → Arrays → Type 0
 Changed w number before try after =
     Shape (after .shared) (after .private) × (machineOf [] after ≡ change effect number (machineOf [] before) w try)
 

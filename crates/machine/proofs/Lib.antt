@@ -2,4 +2,5 @@
 pub mod Places
 pub mod Machines
 pub mod Changes
+pub mod Steps
 pub mod Growth

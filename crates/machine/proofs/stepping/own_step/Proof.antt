@@ -77,11 +77,16 @@ same-length c = search needs
 
 -- src/stepping.rt:83:1
 returns : tie.Need-returns
-returns c = ?
+returns c =
+    let keys = c .before .before .before .before .before .before .before .before .match .keys1 in
+    let told = c .before .before .before .before .before .before .before .enum-told .given in
+    ?
 
 -- src/stepping.rt:83:1
 returns-2 : tie.Need-returns-2
-returns-2 c = ?
+returns-2 c =
+    let keys = c .match .keys2 in
+    ?
 
 pub own-step-spec : {M : Type 1} → statement M
 own-step-spec =
