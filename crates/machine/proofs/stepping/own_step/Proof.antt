@@ -1,4 +1,19 @@
+use mathlib.Core.Path.{_≡_, refl, ap}
+use mathlib.Core.Logic.{⊎-elim}
+use mathlib.Core.List.{[], _∷_}
+use native.Mathlib.Omega.{arith}
 use borrow.Author.Needs.{needs}
+use lib.ListN.{length, getD}
+use types.Run.{OneOf}
+use denote.Enum.Declared.{tagOf}
+use Rattle.steps.specs.Machine.{Machine}
+use Rattle.steps.specs.Step.{stepped, attempted}
+use Rattle.machine.specs.declared.Outcome.{Outcome}
+use Rattle.machine.specs.declared.Outcome.the-variants.{Advanced, PastLast, WriteDiffers, ReadsDiffer}
+use Rattle.machine.specs.Outcomes.{outcomeOf}
+use Rattle.machine.proofs.Outcome as declared
+use Rattle.machine.proofs.Changes.{five-stages, small-access, small-index}
+use Rattle.machine.proofs.Steps.{own-step-made, own-step-held}
 use Rattle.machine.proofs.stepping.own_step.Statement.{statement}
 use Rattle.machine.proofs.stepping.own_step.Tie as tie
 use Rattle.machine.proofs.stepping.own_step.Reads as reads
@@ -6,6 +21,16 @@ use Rattle.machine.proofs.stepping.own_step.Lts as lts
 use Rattle.machine.proofs.place.next.Reads as next-reads
 use Rattle.machine.proofs.stepping.change.Reads as change-reads
 use Rattle.machine.proofs.stepping.held.Reads as held-reads
+
+-- a step with any other outcome than that it advances leaves the machine
+held-back : (why : Outcome) → OneOf (1 ∷ 2 ∷ 3 ∷ []) (tagOf declared.the-type why) → (m after : Machine)
+    → stepped (outcomeOf why) m ≡ attempted (outcomeOf why) m after
+unfolding attempted
+held-back Advanced keys m after =
+    absurd (⊎-elim (λ one. omega arith) (⊎-elim (λ two. omega arith) (λ three. omega arith)) keys)
+held-back PastLast keys m after = refl
+held-back (WriteDiffers cell) keys m after = refl
+held-back (ReadsDiffer cell) keys m after = refl
 
 -- src/stepping.rt:96:18
 mul-passed : tie.Need-mul-passed
@@ -45,7 +70,13 @@ index-2-index c = search needs
 
 -- src/stepping.rt:99:9
 held-requires : tie.Need-held-requires
-held-requires c κs = ?
+held-requires c κs =
+    let start = c .before .before .before .before .before .before .before in
+    let a = start .args in
+    (
+      (start .pre .0 .0 .size, start .pre .0 .1),
+      λ wait. small-access (a .row .now) (length (a .cells .now)) (getD (getD (a .places .now) (a .w) []) 1 0) (getD (getD (a .places .now) (a .w) []) 2 0) (start .pre .0 .0) (start .pre .1 .0) (λ two. omega arith),
+    )
 
 -- src/stepping.rt:101:24
 enum-told : tie.Need-enum-told
@@ -61,7 +92,15 @@ change-requires c κs = search needs
 
 -- src/stepping.rt:102:21
 next-requires : tie.Need-next-requires
-next-requires c κs = ?
+next-requires c κs =
+    let start = c .before .before .before .before .before .before .before .before .before .before .before .before .before .before .before .before in
+    let a = start .args in
+    let stands = start .pre .1 .0 in
+    let fits = start .pre .0 .0 in
+    (
+      (fits .size, start .pre .0 .3, five-stages (a .row .now) (getD (getD (a .places .now) (a .w) []) 1 0) (getD (getD (a .places .now) (a .w) []) 2 0) stands, small-index (a .row .now) (length (a .cells .now)) (getD (getD (a .places .now) (a .w) []) 1 0) (getD (getD (a .places .now) (a .w) []) 2 0) fits stands),
+      λ other. small-access (a .row .now) (length (a .cells .now)) (getD (getD (a .places .now) (a .w) []) 1 0) (getD (getD (a .places .now) (a .w) []) 2 0) fits stands other .0,
+    )
 
 -- src/stepping.rt:102:9
 mul-t34 : tie.Need-mul-t34
@@ -78,15 +117,20 @@ same-length c = search needs
 -- src/stepping.rt:83:1
 returns : tie.Need-returns
 returns c =
-    let keys = c .before .before .before .before .before .before .before .before .match .keys1 in
-    let told = c .before .before .before .before .before .before .before .enum-told .given in
-    ?
+    let start = c .before .before .before .before .before .before .before .before .before .before .before .before .before .before .before .before .before in
+    let a = start .args in
+    let done = c .before .before .before .change in
+    own-step-made (a .row .now) (a .w) (a .cells .now) (a .shared .now) (a .private .now) (a .places .now)
+    (outcomeOf (c .before .before .before .before .before .before .before .before .before .held .result)) (done .last .1 .1 .1 .1 .1 .0) (done .last .1 .1 .1 .1 .1 .1 .0) (done .last .1 .1 .1 .1 .1 .1 .1 .0) (c .next .result)
+    (ap outcomeOf (c .before .before .before .before .before .before .before .enum-told .given .1)) (c .before .before .before .before .before .before .before .before .before .held .ensures) (done .ensures) (c .next .ensures) (omega (arith, start .pre .0 .2))
 
 -- src/stepping.rt:83:1
 returns-2 : tie.Need-returns-2
 returns-2 c =
-    let keys = c .match .keys2 in
-    ?
+    let start = c .before .before .before .before .before .before .before .before .before in
+    let a = start .args in
+    own-step-held (a .row .now) (a .w) (a .cells .now) (a .shared .now) (a .private .now) (a .places .now)
+    (outcomeOf (c .before .held .result)) (start .pre .1 .1 .0) (c .before .held .ensures) (held-back (c .before .held .result) (c .match .keys2))
 
 pub own-step-spec : {M : Type 1} → statement M
 own-step-spec =
