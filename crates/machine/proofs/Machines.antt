@@ -19,7 +19,7 @@ use Rattle.machine.specs.Arrays.{counterOf, counterAt, placeOf, arrays, 
 -- ---- a store
 
 -- what is stored at an index is found there, and elsewhere what was there
-stored-at : {A : Type 0} (l : List A) (i : ℕ) (v d : A) (j : ℕ) → i < length l → getD (set l i v) j d ≡ cond (eqb j i) v (getD l j d)
+pub stored-at : {A : Type 0} (l : List A) (i : ℕ) (v d : A) (j : ℕ) → i < length l → getD (set l i v) j d ≡ cond (eqb j i) v (getD l j d)
 stored-at l i v d j h = go (eqb j i) refl
   where
     go : (same : Bool) → eqb j i ≡ same → getD (set l i v) j d ≡ cond same v (getD l j d)

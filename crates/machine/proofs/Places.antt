@@ -114,7 +114,7 @@ module _ (row : List ℕ) where
   unfolding taskOf
   operation-count = each-length (getD row 2 0) (operationAt row)
 
-  access-there : (index : ℕ) (none : Access) → index < getD row 1 0 → getD (taskOf row .accesses) index none ≡ accessAt row index
+  pub access-there : (index : ℕ) (none : Access) → index < getD row 1 0 → getD (taskOf row .accesses) index none ≡ accessAt row index
   unfolding taskOf
   access-there index none h = each-at (getD row 1 0) (accessAt row) index none h
 
@@ -324,7 +324,7 @@ next-is row passed (suc (suc (suc (suc (suc stage))))) index some h = absurd h
 
 -- ---- the next place, as the rules count it
 
-none-made : (tasks : List Task) → madeIn tasks 0 0 ≡ 0
+pub none-made : (tasks : List Task) → madeIn tasks 0 0 ≡ 0
 unfolding madeIn madeAt
 none-made [] = refl
 none-made (task ∷ later) = width-none (task .accesses)
