@@ -1,4 +1,15 @@
+use mathlib.Core.Path.{_≡_, sym, ap, subst, _∙_}
+use mathlib.Core.List.{List, []}
+use Prim.Native.Nat.{ℕ, _+_}
+use native.Mathlib.Omega.{arith}
 use borrow.Author.Needs.{needs}
+use lib.ListN.{length, getD}
+use Rattle.layout.specs.Bytes.{part}
+use Rattle.layout.specs.Row.{taskOf}
+use Rattle.layout.specs.File.{rowAt}
+use Rattle.machine.specs.Arrays.{arrays, notedAll, RowFits, OwnStep}
+use Rattle.machine.specs.Outcomes.{outcomeOf}
+use Rattle.machine.proofs.Steps.{step-past, step-other, step-own}
 use Rattle.machine.proofs.stepping.step.Statement.{statement}
 use Rattle.machine.proofs.stepping.step.Tie as tie
 use Rattle.machine.proofs.stepping.step.Reads as reads
@@ -22,7 +33,10 @@ index-2-passed c = search needs
 
 -- src/stepping.rt:123:9
 returns : tie.Need-returns
-returns c = ?
+returns c =
+    let start = c .before .before .before .before in
+    let a = start .args in
+    step-past (a .file .now) (a .tasks) (a .w) (a .cells .now) (a .shared .now) (a .private .now) (a .places .now) (start .pre .0 .0) (start .pre .0 .1) (c .if1 .taken)
 
 -- src/stepping.rt:125:27
 add-start : tie.Need-add-start
@@ -31,6 +45,28 @@ add-start c = search needs
 -- src/stepping.rt:125:9
 start-requires : tie.Need-start-requires
 start-requires c κs = search needs
+
+-- the tasks that the worker has gone past, and the row of the next
+abbrev passed-by : tie.Else1 → ℕ
+passed-by c =
+    let a = c .before .before .before .before .args in
+    getD (getD (a .places .now) (a .w) []) 0 0
+
+abbrev row-of : tie.Else1 → List ℕ
+row-of c = rowAt (c .before .before .before .before .args .file .now) (passed-by c + 1)
+
+row-fits : (c : tie.Else1) → RowFits (row-of c) (length (c .before .before .before .before .args .cells .now))
+row-fits c =
+    let start = c .before .before .before .before in
+    start .pre .0 .0 .ready .rows (passed-by c + 1) (omega arith) (omega (arith, c .if1 .left))
+
+-- the part that is read is that row
+row-is : (c : tie.After-start)
+    → part (c .start .result) (c .start .result + 48) (c .before .before .before .before .before .args .file .now) ≡ row-of (c .before)
+row-is c = ap (λ (from : ℕ). part from (from + 48) (c .before .before .before .before .before .args .file .now)) (c .start .ensures)
+
+owner-is : (c : tie.After-index) → c .index .result ≡ getD (row-of (c .before .before .before .before)) 0 0
+owner-is c = c .index .ensures .0 ∙ ap (λ (row : List ℕ). getD row 0 0) (row-is (c .before .before .before))
 
 -- src/stepping.rt:126:27
 add-row : tie.Need-add-row
@@ -62,7 +98,14 @@ add-register c = search needs
 
 -- src/stepping.rt:128:9
 register-requires : tie.Need-register-requires
-register-requires c κs = ?
+register-requires c κs =
+    let start = c .before .before .before .before .before .before .before .before .before .before in
+    let a = start .args in
+    let fits = row-fits (c .before .before .before .before .before .before) in
+    rw (c .before .before .before .before .before .start .ensures) (
+      (fits .size, fits .few-accesses, start .pre .0 .1),
+      (fits .access-cells, start .pre .1 .private-reads (a .w)),
+    )
 
 -- src/stepping.rt:129:22
 add-t24 : tie.Need-add-t24
@@ -78,11 +121,24 @@ element-set-from-places c = search needs
 
 -- src/stepping.rt:130:9
 returns-2 : tie.Need-returns-2
-returns-2 c = ?
+returns-2 c =
+    let start = c .before .before .before .before .before .before .before .before .before .before .before in
+    let a = start .args in
+    let from = c .before .before .before .before .before .before in
+    step-other (a .file .now) (a .tasks) (a .w) (a .cells .now) (a .shared .now) (a .private .now) (a .places .now) (start .pre .0 .0) (start .pre .0 .1) (from .before .if1 .left) (c .register .last .1 .1 .1 .0)
+    (λ same. c .before .before .if2 .taken (owner-is (c .before .before .before) ∙ same))
+    (c .register .ensures ∙ ap (λ (row : List ℕ). notedAll (a .private .now) (a .w) (passed-by (from .before) + 1) (taskOf row .accesses)) (row-is from))
 
 -- src/stepping.rt:132:5
 own-step-requires : tie.Need-own-step-requires
-own-step-requires c κs = ?
+own-step-requires c κs =
+    let start = c .before .before .before .before .before .before .before .before .before .before .before .before .before in
+    let a = start .args in
+    let from = c .before .before .before .before .before .before .before .before in
+    rw (from .start .ensures) (
+      (row-fits (from .before), start .pre .0 .1, start .pre .0 .0 .places-size, omega (arith, start .pre .0 .0 .ready .few-tasks, from .before .if1 .left)),
+      (start .pre .0 .0 .standing .stands (a .w) (start .pre .0 .1) (from .before .if1 .left), (start .pre .0 .0 .shape, record { shared-reads = start .pre .1 .shared-reads; private-reads = start .pre .1 .private-reads })),
+    )
 
 -- src/stepping.rt:108:1
 same-length : tie.Need-same-length
@@ -90,7 +146,16 @@ same-length c = search needs
 
 -- src/stepping.rt:108:1
 returns-3 : tie.Need-returns-3
-returns-3 c = ?
+returns-3 c =
+    let start = c .before .before .before .before .before .before .before .before .before .before .before .before .before .before .before .before in
+    let a = start .args in
+    let from = c .before .before .before .before .before .before .before .before .before .before .before in
+    let done = c .before .before .own-step in
+    let before = arrays (a .cells .now) (a .shared .now) (a .private .now) (a .places .now) in
+    let after = arrays (done .last .1 .1 .0) (done .last .1 .1 .1 .0) (done .last .1 .1 .1 .1 .0) (done .last .1 .1 .1 .1 .1 .0) in
+    step-own (a .file .now) (a .tasks) (a .w) (a .cells .now) (a .shared .now) (a .private .now) (a .places .now) (start .pre .0 .0) (start .pre .0 .1) (from .before .if1 .left) (outcomeOf (done .result)) after
+    (sym (owner-is (c .before .before .before .before .before .before .before .before)) ∙ c .before .before .before .before .before .before .before .if2 .left)
+    (subst (λ (row : List ℕ). OwnStep row (a .w) before (outcomeOf (done .result)) after) (row-is from) (done .ensures))
 
 pub step-spec : {M : Type 1} → statement M
 step-spec =
