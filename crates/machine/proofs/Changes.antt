@@ -3,15 +3,15 @@
 use mathlib.Core.Path.{_≡_, refl, sym, ap, subst, _∙_}
 use mathlib.Core.Bool.{Bool, true, false, cond}
 use mathlib.Core.List.{List, [], _∷_}
-use Prim.Native.Nat.{ℕ, zero, suc, _+_, _<_, _≤_}
+use Prim.Native.Nat.{ℕ, zero, suc, _+_, _<_}
 use native.Mathlib.Omega.{arith}
 use borrow.Author.Tests.{eqb-true, eqb-false}
-use lib.ListN.{length, getD, set}
+use lib.ListN.{getD, set}
 use lib.Dec.{eqb}
 use Rattle.layout.specs.Row.{accessAt, operationAt}
 use Rattle.steps.specs.Operations.{effect, operated}
-use Rattle.steps.specs.Machine.{Counter, Machine, put, counter, withShared, withRow, withCells}
-use Rattle.steps.specs.Step.{Try, operate, endRead, zeroReads, postWrite, writes, afterRead, change}
+use Rattle.steps.specs.Machine.{Machine, put, counter, withShared, withRow, withCells}
+use Rattle.steps.specs.Step.{Try, endRead, zeroReads, postWrite, writes, afterRead, change}
 use Rattle.machine.specs.Arrays.{counterOf, counterAt, Arrays, arrays, machineOf, tryAt, Stands, noted, Shape, RowFits}
 use Rattle.machine.proofs.Machines.{shared-stored, shared-shape, row-replaced, noted-only}
 

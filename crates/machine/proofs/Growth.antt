@@ -3,7 +3,7 @@
 use mathlib.Core.Path.{_≡_, refl, sym, ap, subst, _∙_}
 use mathlib.Core.Bool.{Bool, true, false, cond}
 use mathlib.Core.List.{List, [], _∷_}
-use Prim.Native.Nat.{ℕ, suc, _+_, _<_, _≤_}
+use Prim.Native.Nat.{ℕ, _+_, _<_, _≤_}
 use native.Mathlib.Omega.{arith}
 use lib.ListN.{length, getD, drop}
 use lib.Seq.{getD-drop}
@@ -14,7 +14,7 @@ use Rattle.layout.specs.File.{rowAt}
 use Rattle.layout.proofs.Lists.{each-length, each-at}
 use Rattle.steps.specs.Operations.{Effect}
 use Rattle.steps.specs.Machine.{Counter, Place, Machine, put, counter, place, withPlace}
-use Rattle.steps.specs.Step.{Try, waitWrite, waitReads, operate, endRead, zeroReads, postWrite, writes, Setting, Outcome, outcome, moved, advanced, pastLast, writeDiffers, readsDiffer, afterRead, registered, registerAll, change, Stepped, attempted, ownSteps, ownStep, otherStep, stepFrom, step}
+use Rattle.steps.specs.Step.{Try, waitWrite, waitReads, operate, endRead, zeroReads, postWrite, writes, Setting, Outcome, outcome, moved, advanced, pastLast, writeDiffers, readsDiffer, afterRead, registered, registerAll, change, attempted, ownSteps, ownStep, otherStep, stepFrom, step}
 use Rattle.machine.specs.Arrays.{ReadsAtMost, Ready, settingIn, tasksIn}
 use Rattle.machine.proofs.Places.{access-count, shown-within}
 

@@ -1,19 +1,19 @@
 -- A store into the arrays is a replacement in the machine that they stand for: what is stored at an index is found there, and
 -- elsewhere what was there before.
-use mathlib.Core.Path.{_≡_, refl, sym, ap, fun-ext, subst, _∙_}
+use mathlib.Core.Path.{_≡_, refl, ap, fun-ext, _∙_}
 use mathlib.Core.Bool.{Bool, true, false, cond}
 use mathlib.Core.Logic.{_≢_}
 use mathlib.Core.List.{List, [], _∷_}
-use Prim.Native.Nat.{ℕ, zero, suc, _+_, _<_, _≤_, suc-le-suc}
+use Prim.Native.Nat.{ℕ, suc, _+_, _<_, suc-le-suc}
 use native.Mathlib.Omega.{arith}
 use borrow.Author.Tests.{eqb-true, eqb-false}
-use lib.ListN.{length, getD, set, drop, length-set}
+use lib.ListN.{length, getD, set, length-set}
 use lib.Seq.{getD-set-same, getD-set-other}
 use lib.Dec.{eqb}
 use Rattle.layout.specs.Flow.{Access, Task}
-use Rattle.steps.specs.Operations.{Effect, effect}
-use Rattle.steps.specs.Machine.{Counter, Place, Machine, put, counter, withCells, withShared, withRow, withPlace}
-use Rattle.steps.specs.Step.{Try, waitWrite, waitReads, operate, endRead, zeroReads, postWrite, writes, Outcome, outcome, afterRead, registered, registerAll, change}
+use Rattle.steps.specs.Operations.{Effect}
+use Rattle.steps.specs.Machine.{Counter, Place, Machine, put, counter, withShared, withRow, withPlace}
+use Rattle.steps.specs.Step.{Try, waitWrite, waitReads, operate, endRead, zeroReads, postWrite, writes, outcome, afterRead, registerAll, change}
 use Rattle.machine.specs.Arrays.{counterOf, counterAt, placeOf, arrays, machineOf, noted, notedAll, Shape}
 
 -- ---- a store
@@ -44,12 +44,6 @@ module _ (tasks : List Task) (cells : List ℕ) (shared : List (List ℕ)) (priv
   shared-stored cell numbers h =
       λ i. record { cells = cells; shared = stored counterOf shared cell numbers [] h i; private = λ w c. counterAt (getD private w []) c; places = λ w. placeOf tasks (getD places w []) }
 
-  pub row-stored : (w : ℕ) (row : List (List ℕ)) → w < length private
-      → machineOf tasks (arrays cells shared (set private w row) places)
-      ≡ withRow (machineOf tasks (arrays cells shared private places)) w (counterAt row)
-  row-stored w row h =
-      λ i. record { cells = cells; shared = counterAt shared; private = stored counterAt private w row [] h i; places = λ w. placeOf tasks (getD places w []) }
-
   pub place-stored : (w : ℕ) (numbers : List ℕ) → w < length places
       → machineOf tasks (arrays cells shared private (set places w numbers))
       ≡ withPlace (machineOf tasks (arrays cells shared private places)) w (placeOf tasks numbers)
@@ -63,7 +57,7 @@ pub shared-shape : (shared : List (List ℕ)) (private : List (List (List ℕ)))
 shared-shape shared private cell numbers shape =
     record { shared-size = length-set shared cell numbers ∙ shape .shared-size; private-size = shape .private-size; row-size = shape .row-size }
 
-pub row-shape : (shared : List (List ℕ)) (private : List (List (List ℕ))) (w : ℕ) (row : List (List ℕ)) → w < 8 → length row ≡ 32
+row-shape : (shared : List (List ℕ)) (private : List (List (List ℕ))) (w : ℕ) (row : List (List ℕ)) → w < 8 → length row ≡ 32
     → Shape shared private
     → Shape shared (set private w row)
 row-shape shared private w row h size shape =

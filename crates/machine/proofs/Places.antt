@@ -9,7 +9,7 @@ use native.Mathlib.Numerals.{add-one}
 use native.Mathlib.Omega.{arith}
 use borrow.Author.Tests.{lt-ltb, le-ltb, ltb-true, ltb-false}
 use lib.ListN.{length, getD, drop, length-append, length-drop, length-map}
-use lib.Seq.{drop-cons, drop-drop, drop-append-add}
+use lib.Seq.{drop-drop, drop-append-add}
 use lib.Dec.{ltb}
 use Rattle.layout.specs.Lists.{each}
 use Rattle.layout.specs.Flow.{Access, Operation, Task}
@@ -17,9 +17,9 @@ use Rattle.layout.specs.Row.{accessAt, operationAt, taskOf}
 use Rattle.layout.specs.File.{rowAt}
 use Rattle.layout.proofs.Lists.{each-length, each-at}
 use Rattle.layout.proofs.Modes.{each-drop}
-use Rattle.steps.specs.Machine.{Place, place}
+use Rattle.steps.specs.Machine.{place}
 use Rattle.steps.specs.Step.{Try, waitWrite, waitReads, operate, endRead, zeroReads, postWrite, writes, waits, ends, ofEach, ownSteps, moved}
-use Rattle.machine.specs.Arrays.{width, widthBefore, widthOf, madeAt, madeIn, placeOf, tryAt, Stands, afterWait, afterEnd, nextPlace, RowFits}
+use Rattle.machine.specs.Arrays.{width, widthBefore, widthOf, madeAt, madeIn, placeOf, tryAt, Stands, afterWait, afterEnd, nextPlace}
 
 -- ---- the steps of each access, laid end to end
 
@@ -235,7 +235,7 @@ module _ (row : List ℕ) where
 -- ---- the next place
 
 -- after so many own steps a worker stands in the same task, one own step further, or it has made the task's last
-pub data Next (row : List ℕ) (passed made : ℕ) : List ℕ → Type 0 where
+data Next (row : List ℕ) (passed made : ℕ) : List ℕ → Type 0 where
   within : (stage index : ℕ) → Stands row stage index → madeAt (taskOf row) stage index ≡ made + 1
       → Next row passed made (passed ∷ stage ∷ index ∷ [])
   beyond : made + 1 ≡ length (ownSteps (taskOf row)) → Next row passed made ((passed + 1) ∷ 0 ∷ 0 ∷ [])
@@ -293,7 +293,7 @@ module _ (row : List ℕ) (passed made : ℕ) where
           in
           beyond (omega (arith, all-own-steps row))
 
-pub next-is : (row : List ℕ) (passed stage index : ℕ) → 1 ≤ getD row 1 0 → Stands row stage index
+next-is : (row : List ℕ) (passed stage index : ℕ) → 1 ≤ getD row 1 0 → Stands row stage index
     → Next row passed (madeAt (taskOf row) stage index) (nextPlace row passed stage index)
 unfolding Stands madeAt nextPlace
 next-is row passed zero index some h = go (writes (accessAt row index)) refl

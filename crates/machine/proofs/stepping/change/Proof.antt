@@ -1,3 +1,4 @@
+-- `machine::stepping::change` meets its contract: at each stage the code stores what the rules change at the own step tried there.
 use mathlib.Core.Path.{_≡_, sym, ap, _∙_}
 use Prim.Native.Nat.{ℕ, _<_}
 use native.Mathlib.Omega.{arith}
@@ -9,26 +10,16 @@ use Rattle.steps.specs.Step.{writes}
 use Rattle.machine.proofs.Changes.{five-stages, at-operation, at-access, waited, made, posted, zeroed, ended}
 use Rattle.machine.proofs.stepping.change.Statement.{statement}
 use Rattle.machine.proofs.stepping.change.Tie as tie
-use Rattle.machine.proofs.stepping.change.Reads as reads
-use Rattle.machine.proofs.stepping.change.Lts as lts
-use Rattle.machine.proofs.counters.is_write.Reads as is-write-reads
-use Rattle.machine.proofs.counters.note.Reads as note-reads
-use Rattle.machine.proofs.effect.operate.Reads as operate-reads
-use Rattle.octets.proofs.index.Reads as index-reads
-use Rattle.octets.proofs.offset.Reads as offset-reads
 
--- src/stepping.rt:59:9
 returns : tie.Need-returns
 returns c =
     let start = c .before .before .before in
     let a = start .args in
     waited (a .row .now) (a .w) (a .number) (a .index) (a .cells .now) (a .shared .now) (a .private .now) (start .pre .1 .0) (a .stage) (c .if1 .taken)
 
--- src/stepping.rt:61:9
 offset-requires : tie.Need-offset-requires
 offset-requires c κs = search needs
 
--- src/stepping.rt:63:9
 operate-requires : tie.Need-operate-requires
 operate-requires c κs =
     let start = c .before .before .before .before .before .before in
@@ -39,11 +30,9 @@ operate-requires c κs =
       (start .pre .0 .0 .writes-cells (a .index) at, start .pre .0 .0 .reads-cells (a .index) at),
     )
 
--- src/stepping.rt:64:9
 same-length : tie.Need-same-length
 same-length c = search needs
 
--- src/stepping.rt:64:9
 returns-2 : tie.Need-returns-2
 returns-2 c =
     let start = c .before .before .before .before .before .before .before .before .before in
@@ -70,58 +59,45 @@ within c =
     let start = c .before .before .before .before .before .before .before in
     rw (cell-is c) (start .pre .0 .0 .access-cells (start .args .index) (access-index (c .before .before)))
 
--- src/stepping.rt:66:38
 mul-index : tie.Need-mul-index
 mul-index c = search needs
 
--- src/stepping.rt:66:34
 add-index : tie.Need-add-index
 add-index c = search needs
 
--- src/stepping.rt:66:30
 shared-slice-read-index : tie.Need-shared-slice-read-index
 shared-slice-read-index c =
     let start = c .before .before .before .before .before .before in
     let a = start .args in
     omega (arith, access-index (c .before), start .pre .0 .0 .size, start .pre .0 .0 .few-accesses)
 
--- src/stepping.rt:66:9
 index-requires : tie.Need-index-requires
 index-requires c κs = search needs
 
--- src/stepping.rt:67:16
 mul-last : tie.Need-mul-last
 mul-last c = search needs
 
--- src/stepping.rt:67:16
 index-1-last : tie.Need-index-1-last
 index-1-last c = within c
 
--- src/stepping.rt:67:16
 index-2-last : tie.Need-index-2-last
 index-2-last c = search needs
 
--- src/stepping.rt:68:17
 mul-reads : tie.Need-mul-reads
 mul-reads c = search needs
 
--- src/stepping.rt:68:17
 index-1-reads : tie.Need-index-1-reads
 index-1-reads c = within (c .before)
 
--- src/stepping.rt:68:17
 index-2-reads : tie.Need-index-2-reads
 index-2-reads c = search needs
 
--- src/stepping.rt:70:9
 mul-t31 : tie.Need-mul-t31
 mul-t31 c = search needs
 
--- src/stepping.rt:70:9
 element-set-from-shared : tie.Need-element-set-from-shared
 element-set-from-shared c = within (c .before .before .before)
 
--- src/stepping.rt:71:9
 note-requires : tie.Need-note-requires
 note-requires c κs =
     let start = c .before .before .before .before .before .before .before .before .before .before .before in
@@ -129,7 +105,6 @@ note-requires c κs =
     let cell = c .before .before .before .before .index .result in
     (start .pre .0 .2, within (c .before .before .before .before), omega (arith, start .pre .1 .1 .private-reads (a .w) cell))
 
--- src/stepping.rt:72:9
 returns-3 : tie.Need-returns-3
 returns-3 c =
     let start = c .before .before .before .before .before .before .before .before .before .before .before .before in
@@ -137,7 +112,6 @@ returns-3 c =
     let read = c .before .before .before .before .before in
     posted (a .row .now) (a .w) (a .number) (a .index) (a .cells .now) (a .shared .now) (a .private .now) (start .pre .1 .0) (read .index .result) (start .pre .0 .2) (within read) (cell-is read) (a .stage) (c .note .last .0) (c .before .before .if3 .taken) (c .note .ensures)
 
--- src/stepping.rt:74:8
 is-write-requires : tie.Need-is-write-requires
 is-write-requires c κs =
     let start = c .before .before .before .before .before .before .before .before .before .before in
@@ -158,15 +132,12 @@ mode-is c =
     ap (λ (i : ℕ). writes (accessAt (a .row .now) i)) (sym (c .before .before .before .before .before .before .before .offset .ensures))
     ∙ sym (c .is-write .ensures)
 
--- src/stepping.rt:75:9
 mul-t38 : tie.Need-mul-t38
 mul-t38 c = search needs
 
--- src/stepping.rt:75:9
 element-set-from-shared-2 : tie.Need-element-set-from-shared-2
 element-set-from-shared-2 c = within (c .before .before .before .before .before)
 
--- src/stepping.rt:76:9
 returns-4 : tie.Need-returns-4
 returns-4 c =
     let start = c .before .before .before .before .before .before .before .before .before .before .before .before in
@@ -174,22 +145,18 @@ returns-4 c =
     let read = c .before .before .before .before .before in
     zeroed (a .row .now) (a .w) (a .number) (a .index) (a .cells .now) (a .shared .now) (a .private .now) (start .pre .1 .0) (read .index .result) (start .pre .0 .2) (within read) (cell-is read) (a .stage) (third (c .before .before)) (mode-is (c .before) ∙ c .if4 .taken)
 
--- src/stepping.rt:78:27
 add-t25 : tie.Need-add-t25
 add-t25 c =
     let start = c .before .before .before .before .before .before .before .before .before .before .before .before in
     let a = start .args in
     omega (arith, start .pre .1 .1 .shared-reads (c .before .before .before .before .before .index .result))
 
--- src/stepping.rt:78:5
 mul-t17 : tie.Need-mul-t17
 mul-t17 c = search needs
 
--- src/stepping.rt:78:5
 element-set-from-shared-3 : tie.Need-element-set-from-shared-3
 element-set-from-shared-3 c = within (c .before .before .before .before .before)
 
--- src/stepping.rt:79:5
 note-requires-2 : tie.Need-note-requires-2
 note-requires-2 c κs =
     let start = c .before .before .before .before .before .before .before .before .before .before .before .before .before in
@@ -197,7 +164,6 @@ note-requires-2 c κs =
     let cell = c .before .before .before .before .before .before .index .result in
     (start .pre .0 .2, within (c .before .before .before .before .before .before), omega (arith, start .pre .1 .1 .private-reads (a .w) cell))
 
--- src/stepping.rt:44:1
 returns-5 : tie.Need-returns-5
 returns-5 c =
     let start = c .before .before .before .before .before .before .before .before .before .before .before .before .before .before in

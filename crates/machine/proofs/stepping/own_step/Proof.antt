@@ -1,3 +1,4 @@
+-- `machine::stepping::own_step` meets its contract: an own step that advances is changed and moved on as the rules say, and one that is held stores nothing.
 use mathlib.Core.Path.{_≡_, refl, ap}
 use mathlib.Core.Logic.{⊎-elim}
 use mathlib.Core.List.{[], _∷_}
@@ -16,11 +17,6 @@ use Rattle.machine.proofs.Changes.{five-stages, small-access, small-ind
 use Rattle.machine.proofs.Steps.{own-step-made, own-step-held}
 use Rattle.machine.proofs.stepping.own_step.Statement.{statement}
 use Rattle.machine.proofs.stepping.own_step.Tie as tie
-use Rattle.machine.proofs.stepping.own_step.Reads as reads
-use Rattle.machine.proofs.stepping.own_step.Lts as lts
-use Rattle.machine.proofs.place.next.Reads as next-reads
-use Rattle.machine.proofs.stepping.change.Reads as change-reads
-use Rattle.machine.proofs.stepping.held.Reads as held-reads
 
 -- a step with any other outcome than that it advances leaves the machine
 held-back : (why : Outcome) → OneOf (1 ∷ 2 ∷ 3 ∷ []) (tagOf declared.the-type why) → (m after : Machine)
@@ -32,43 +28,33 @@ held-back PastLast keys m after = refl
 held-back (WriteDiffers cell) keys m after = refl
 held-back (ReadsDiffer cell) keys m after = refl
 
--- src/stepping.rt:96:18
 mul-passed : tie.Need-mul-passed
 mul-passed c = search needs
 
--- src/stepping.rt:96:18
 index-1-passed : tie.Need-index-1-passed
 index-1-passed c = search needs
 
--- src/stepping.rt:96:18
 index-2-passed : tie.Need-index-2-passed
 index-2-passed c = search needs
 
--- src/stepping.rt:97:17
 mul-stage : tie.Need-mul-stage
 mul-stage c = search needs
 
--- src/stepping.rt:97:17
 index-1-stage : tie.Need-index-1-stage
 index-1-stage c = search needs
 
--- src/stepping.rt:97:17
 index-2-stage : tie.Need-index-2-stage
 index-2-stage c = search needs
 
--- src/stepping.rt:98:17
 mul-index : tie.Need-mul-index
 mul-index c = search needs
 
--- src/stepping.rt:98:17
 index-1-index : tie.Need-index-1-index
 index-1-index c = search needs
 
--- src/stepping.rt:98:17
 index-2-index : tie.Need-index-2-index
 index-2-index c = search needs
 
--- src/stepping.rt:99:9
 held-requires : tie.Need-held-requires
 held-requires c κs =
     let start = c .before .before .before .before .before .before .before in
@@ -78,19 +64,15 @@ held-requires c κs =
       λ wait. small-access (a .row .now) (length (a .cells .now)) (getD (getD (a .places .now) (a .w) []) 1 0) (getD (getD (a .places .now) (a .w) []) 2 0) (start .pre .0 .0) (start .pre .1 .0) (λ two. omega arith),
     )
 
--- src/stepping.rt:101:24
 enum-told : tie.Need-enum-told
 enum-told c = search needs
 
--- src/stepping.rt:101:24
 add-change : tie.Need-add-change
 add-change c = search needs
 
--- src/stepping.rt:101:9
 change-requires : tie.Need-change-requires
 change-requires c κs = search needs
 
--- src/stepping.rt:102:21
 next-requires : tie.Need-next-requires
 next-requires c κs =
     let start = c .before .before .before .before .before .before .before .before .before .before .before .before .before .before .before .before in
@@ -102,19 +84,15 @@ next-requires c κs =
       λ other. small-access (a .row .now) (length (a .cells .now)) (getD (getD (a .places .now) (a .w) []) 1 0) (getD (getD (a .places .now) (a .w) []) 2 0) fits stands other .0,
     )
 
--- src/stepping.rt:102:9
 mul-t34 : tie.Need-mul-t34
 mul-t34 c = search needs
 
--- src/stepping.rt:102:9
 element-set-from-places : tie.Need-element-set-from-places
 element-set-from-places c = search needs
 
--- src/stepping.rt:83:1
 same-length : tie.Need-same-length
 same-length c = search needs
 
--- src/stepping.rt:83:1
 returns : tie.Need-returns
 returns c =
     let start = c .before .before .before .before .before .before .before .before .before .before .before .before .before .before .before .before .before in
@@ -124,7 +102,6 @@ returns c =
     (outcomeOf (c .before .before .before .before .before .before .before .before .before .held .result)) (done .last .1 .1 .1 .1 .1 .0) (done .last .1 .1 .1 .1 .1 .1 .0) (done .last .1 .1 .1 .1 .1 .1 .1 .0) (c .next .result)
     (ap outcomeOf (c .before .before .before .before .before .before .before .enum-told .given .1)) (c .before .before .before .before .before .before .before .before .before .held .ensures) (done .ensures) (c .next .ensures) (omega (arith, start .pre .0 .2))
 
--- src/stepping.rt:83:1
 returns-2 : tie.Need-returns-2
 returns-2 c =
     let start = c .before .before .before .before .before .before .before .before .before in

@@ -1,3 +1,4 @@
+-- `machine::stepping::step` meets its contract: the row that is read is the row of the worker's next task, and the three ways through the code are the rules' three cases.
 use mathlib.Core.Path.{_≡_, sym, ap, subst, _∙_}
 use mathlib.Core.List.{List, []}
 use Prim.Native.Nat.{ℕ, _+_}
@@ -12,37 +13,25 @@ use Rattle.machine.specs.Outcomes.{outcomeOf}
 use Rattle.machine.proofs.Steps.{step-past, step-other, step-own}
 use Rattle.machine.proofs.stepping.step.Statement.{statement}
 use Rattle.machine.proofs.stepping.step.Tie as tie
-use Rattle.machine.proofs.stepping.step.Reads as reads
-use Rattle.machine.proofs.stepping.step.Lts as lts
-use Rattle.machine.proofs.counters.register.Reads as register-reads
-use Rattle.machine.proofs.stepping.own_step.Reads as own-step-reads
-use Rattle.octets.proofs.index.Reads as index-reads
-use Rattle.row.proofs.start.Reads as start-reads
 
--- src/stepping.rt:121:18
 mul-passed : tie.Need-mul-passed
 mul-passed c = search needs
 
--- src/stepping.rt:121:18
 index-1-passed : tie.Need-index-1-passed
 index-1-passed c = search needs
 
--- src/stepping.rt:121:18
 index-2-passed : tie.Need-index-2-passed
 index-2-passed c = search needs
 
--- src/stepping.rt:123:9
 returns : tie.Need-returns
 returns c =
     let start = c .before .before .before .before in
     let a = start .args in
     step-past (a .file .now) (a .tasks) (a .w) (a .cells .now) (a .shared .now) (a .private .now) (a .places .now) (start .pre .0 .0) (start .pre .0 .1) (c .if1 .taken)
 
--- src/stepping.rt:125:27
 add-start : tie.Need-add-start
 add-start c = search needs
 
--- src/stepping.rt:125:9
 start-requires : tie.Need-start-requires
 start-requires c κs = search needs
 
@@ -68,35 +57,27 @@ row-is c = ap (λ (from : ℕ). part from (from + 48) (c .before .before .before
 owner-is : (c : tie.After-index) → c .index .result ≡ getD (row-of (c .before .before .before .before)) 0 0
 owner-is c = c .index .ensures .0 ∙ ap (λ (row : List ℕ). getD row 0 0) (row-is (c .before .before .before))
 
--- src/stepping.rt:126:27
 add-row : tie.Need-add-row
 add-row c = search needs
 
--- src/stepping.rt:126:15
 sub-row : tie.Need-sub-row
 sub-row c = search needs
 
--- src/stepping.rt:126:15
 part-row-start : tie.Need-part-row-start
 part-row-start c = search needs
 
--- src/stepping.rt:126:15
 part-row-end : tie.Need-part-row-end
 part-row-end c = search needs
 
--- src/stepping.rt:127:22
 shared-slice-read-index : tie.Need-shared-slice-read-index
 shared-slice-read-index c = search needs
 
--- src/stepping.rt:127:8
 index-requires : tie.Need-index-requires
 index-requires c κs = search needs
 
--- src/stepping.rt:128:26
 add-register : tie.Need-add-register
 add-register c = search needs
 
--- src/stepping.rt:128:9
 register-requires : tie.Need-register-requires
 register-requires c κs =
     let start = c .before .before .before .before .before .before .before .before .before .before in
@@ -107,19 +88,15 @@ register-requires c κs =
       (fits .access-cells, start .pre .1 .private-reads (a .w)),
     )
 
--- src/stepping.rt:129:22
 add-t24 : tie.Need-add-t24
 add-t24 c = search needs
 
--- src/stepping.rt:129:9
 mul-t27 : tie.Need-mul-t27
 mul-t27 c = search needs
 
--- src/stepping.rt:129:9
 element-set-from-places : tie.Need-element-set-from-places
 element-set-from-places c = search needs
 
--- src/stepping.rt:130:9
 returns-2 : tie.Need-returns-2
 returns-2 c =
     let start = c .before .before .before .before .before .before .before .before .before .before .before in
@@ -129,7 +106,6 @@ returns-2 c =
     (λ same. c .before .before .if2 .taken (owner-is (c .before .before .before) ∙ same))
     (c .register .ensures ∙ ap (λ (row : List ℕ). notedAll (a .private .now) (a .w) (passed-by (from .before) + 1) (taskOf row .accesses)) (row-is from))
 
--- src/stepping.rt:132:5
 own-step-requires : tie.Need-own-step-requires
 own-step-requires c κs =
     let start = c .before .before .before .before .before .before .before .before .before .before .before .before .before in
@@ -140,11 +116,9 @@ own-step-requires c κs =
       (start .pre .0 .0 .standing .stands (a .w) (start .pre .0 .1) (from .before .if1 .left), (start .pre .0 .0 .shape, record { shared-reads = start .pre .1 .shared-reads; private-reads = start .pre .1 .private-reads })),
     )
 
--- src/stepping.rt:108:1
 same-length : tie.Need-same-length
 same-length c = search needs
 
--- src/stepping.rt:108:1
 returns-3 : tie.Need-returns-3
 returns-3 c =
     let start = c .before .before .before .before .before .before .before .before .before .before .before .before .before .before .before .before in
