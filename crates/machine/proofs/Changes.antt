@@ -10,9 +10,9 @@ use lib.ListN.{getD, set}
 use lib.Dec.{eqb}
 use Rattle.layout.specs.Row.{accessAt, operationAt}
 use Rattle.steps.specs.Operations.{effect, operated}
-use Rattle.steps.specs.Machine.{Machine, put, counter, withShared, withRow, withCells}
+use Rattle.steps.specs.Machine.{Counter, Machine, put, counter, withShared, withRow, withCells}
 use Rattle.steps.specs.Step.{Try, endRead, zeroReads, postWrite, writes, afterRead, change}
-use Rattle.machine.specs.Arrays.{counterOf, counterAt, Arrays, arrays, machineOf, tryAt, Stands, noted, Shape, RowFits}
+use Rattle.machine.specs.Arrays.{counterOf, Arrays, arrays, machineOf, tryAt, Stands, noted, Shape, RowFits}
 use Rattle.machine.proofs.Machines.{shared-stored, shared-shape, row-replaced, noted-only}
 
 -- ---- where a worker can stand
@@ -61,52 +61,51 @@ abbrev pub Changed : ℕ → ℕ → Arrays → Try → Arrays → Type 0
 Changed w number before try after =
     Shape (after .shared) (after .private) × (machineOf [] after ≡ change effect number (machineOf [] before) w try)
 
-module _ (row : List ℕ) (w number index : ℕ) (cells : List ℕ) (shared : List (List ℕ)) (private : List (List (List ℕ))) (shape : Shape shared private) where
-  pub waited : (stage : ℕ) → stage < 2
-      → Changed w number (arrays cells shared private []) (tryAt row stage index) (arrays cells shared private [])
+module _ (row : List ℕ) (w number index : ℕ) (kept : Arrays) (shape : Shape (kept .shared) (kept .private)) where
+  abbrev m : Machine
+  m = machineOf [] kept
+
+  pub waited : (stage : ℕ) → stage < 2 → Changed w number kept (tryAt row stage index) kept
   unfolding tryAt change
   waited zero h = (shape, refl)
   waited (suc zero) h = (shape, refl)
   waited (suc (suc stage)) h = absurd (omega arith)
 
-  pub made : (stage : ℕ) (cells′ : List ℕ) → stage ≡ 2 → cells′ ≡ operated effect (operationAt row index) cells
-      → Changed w number (arrays cells shared private []) (tryAt row stage index) (arrays cells′ shared private [])
+  pub made : (stage : ℕ) (cells′ : List ℕ) → stage ≡ 2 → cells′ ≡ operated effect (operationAt row index) (kept .cells)
+      → Changed w number kept (tryAt row stage index) (arrays cells′ (kept .shared) (kept .private) (kept .places))
   unfolding tryAt change
-  made stage cells′ e is =
-      let m = machineOf [] (arrays cells shared private []) in
-      (shape, ap (withCells m) is ∙ ap (λ (s : ℕ). change effect number m w (tryAt row s index)) (sym e))
+  made stage cells′ e is = (shape, ap (withCells m) is ∙ ap (λ (s : ℕ). change effect number m w (tryAt row s index)) (sym e))
 
   module _ (cell : ℕ) (h : w < 8) (l : cell < 32) (here : cell ≡ accessAt row index .cell) where
+    -- the counter there, shared and in the worker's row
+    abbrev ours : List ℕ
+    ours = getD (kept .shared) cell []
+
+    abbrev mine : Counter
+    mine = m .private w cell
+
     -- a shared counter stored and an access noted
-    stored-noted : (numbers : List ℕ) (isWrite : Bool) (private′ : List (List (List ℕ))) → private′ ≡ noted private w cell isWrite number
-        → Shape (set shared cell numbers) private′
-        × (machineOf [] (arrays cells (set shared cell numbers) private′ [])
-        ≡ withRow (withShared (machineOf [] (arrays cells shared private [])) cell (counterOf numbers)) w
-        (put (counterAt (getD private w [])) cell (cond isWrite (counter number 0) (afterRead (counterAt (getD private w []) cell)))))
+    stored-noted : (numbers : List ℕ) (isWrite : Bool) (private′ : List (List (List ℕ))) → private′ ≡ noted (kept .private) w cell isWrite number
+        → Shape (set (kept .shared) cell numbers) private′
+        × (machineOf [] (arrays (kept .cells) (set (kept .shared) cell numbers) private′ (kept .places))
+        ≡ withRow (withShared m cell (counterOf numbers)) w (put (m .private w) cell (cond isWrite (counter number 0) (afterRead mine))))
     stored-noted numbers isWrite private′ is =
-        let shape′ = shared-shape shared private cell numbers shape in
-        let only = noted-only (set shared cell numbers) w number h private cell isWrite l shape′ in
-        let row′ = put (counterAt (getD private w [])) cell (cond isWrite (counter number 0) (afterRead (counterAt (getD private w []) cell))) in (
-          subst (Shape (set shared cell numbers)) (sym is) (only .shape),
-          ap (λ (p : List (List (List ℕ))). machineOf [] (arrays cells (set shared cell numbers) p [])) is
-          ∙ row-replaced [] cells (set shared cell numbers) private (noted private w cell isWrite number) [] w row′ only
-          ∙ ap (λ (m : Machine). withRow m w row′)
-          (shared-stored [] cells shared private [] cell numbers (omega (arith, shape .shared-size))),
+        let stored = arrays (kept .cells) (set (kept .shared) cell numbers) (kept .private) (kept .places) in
+        let row′ = put (m .private w) cell (cond isWrite (counter number 0) (afterRead mine)) in
+        let only =
+        noted-only (stored .shared) w number h (kept .private) cell isWrite l
+        (shared-shape (kept .shared) (kept .private) cell numbers shape)
+        in (
+          subst (Shape (stored .shared)) (sym is) (only .shape),
+          ap (λ (p : List (List (List ℕ))). machineOf [] (arrays (kept .cells) (stored .shared) p (kept .places))) is
+          ∙ row-replaced [] stored (noted (kept .private) w cell isWrite number) w row′ only
+          ∙ ap (λ (to : Machine). withRow to w row′) (shared-stored [] kept cell numbers (omega (arith, shape .shared-size))),
         )
 
     -- a try that is reached by an equation
-    tried : (stage : ℕ) (try : Try) (m : Machine) → try ≡ tryAt row stage index
-        → m ≡ change effect number (machineOf [] (arrays cells shared private [])) w try
-        → m ≡ change effect number (machineOf [] (arrays cells shared private [])) w (tryAt row stage index)
-    tried stage try m e is = is ∙ ap (change effect number (machineOf [] (arrays cells shared private [])) w) e
-
-    pub posted : (stage : ℕ) (private′ : List (List (List ℕ))) → stage ≡ 4 → private′ ≡ noted private w cell true number
-        → Changed w number (arrays cells shared private []) (tryAt row stage index)
-        (arrays cells (set shared cell (number ∷ getD (getD shared cell []) 1 0 ∷ [])) private′ [])
-    unfolding tryAt change
-    posted stage private′ e is =
-        let both = stored-noted (number ∷ getD (getD shared cell []) 1 0 ∷ []) true private′ is in
-        (both .0, tried stage (postWrite cell) _ (ap postWrite here ∙ ap (λ (s : ℕ). tryAt row s index) (sym e)) (both .1))
+    tried : (stage : ℕ) (try : Try) (to : Machine) → try ≡ tryAt row stage index → to ≡ change effect number m w try
+        → to ≡ change effect number m w (tryAt row stage index)
+    tried stage try to e is = is ∙ ap (change effect number m w) e
 
     -- the try of an access's first end
     first-end : (stage : ℕ) (isWrite : Bool) → stage ≡ 3 → writes (accessAt row index) ≡ isWrite
@@ -118,21 +117,28 @@ module _ (row : List ℕ) (w number index : ℕ) (cells : List ℕ) (shared : Li
         ∙ ap (λ (s : ℕ). tryAt row s index) (sym e)
 
     pub zeroed : (stage : ℕ) → stage ≡ 3 → writes (accessAt row index) ≡ true
-        → Changed w number (arrays cells shared private []) (tryAt row stage index)
-        (arrays cells (set shared cell (getD (getD shared cell []) 0 0 ∷ 0 ∷ [])) private [])
+        → Changed w number kept (tryAt row stage index)
+        (arrays (kept .cells) (set (kept .shared) cell (getD ours 0 0 ∷ 0 ∷ [])) (kept .private) (kept .places))
     unfolding change
     zeroed stage e t =
-        let numbers = getD (getD shared cell []) 0 0 ∷ 0 ∷ [] in (
-          shared-shape shared private cell numbers shape,
-          tried stage (zeroReads cell) _ (first-end stage true e t)
-          (shared-stored [] cells shared private [] cell numbers (omega (arith, shape .shared-size))),
+        let numbers = getD ours 0 0 ∷ 0 ∷ [] in (
+          shared-shape (kept .shared) (kept .private) cell numbers shape,
+          tried stage (zeroReads cell) _ (first-end stage true e t) (shared-stored [] kept cell numbers (omega (arith, shape .shared-size))),
         )
 
     pub ended : (stage : ℕ) (private′ : List (List (List ℕ))) → stage ≡ 3 → writes (accessAt row index) ≡ false
-        → private′ ≡ noted private w cell false number
-        → Changed w number (arrays cells shared private []) (tryAt row stage index)
-        (arrays cells (set shared cell (getD (getD shared cell []) 0 0 ∷ (getD (getD shared cell []) 1 0 + 1) ∷ [])) private′ [])
+        → private′ ≡ noted (kept .private) w cell false number
+        → Changed w number kept (tryAt row stage index)
+        (arrays (kept .cells) (set (kept .shared) cell (getD ours 0 0 ∷ (getD ours 1 0 + 1) ∷ [])) private′ (kept .places))
     unfolding change
     ended stage private′ e t is =
-        let both = stored-noted (getD (getD shared cell []) 0 0 ∷ (getD (getD shared cell []) 1 0 + 1) ∷ []) false private′ is in
+        let both = stored-noted (getD ours 0 0 ∷ (getD ours 1 0 + 1) ∷ []) false private′ is in
         (both .0, tried stage (endRead cell) _ (first-end stage false e t) (both .1))
+
+    pub posted : (stage : ℕ) (private′ : List (List (List ℕ))) → stage ≡ 4 → private′ ≡ noted (kept .private) w cell true number
+        → Changed w number kept (tryAt row stage index)
+        (arrays (kept .cells) (set (kept .shared) cell (number ∷ getD ours 1 0 ∷ [])) private′ (kept .places))
+    unfolding tryAt change
+    posted stage private′ e is =
+        let both = stored-noted (number ∷ getD ours 1 0 ∷ []) true private′ is in
+        (both .0, tried stage (postWrite cell) _ (ap postWrite here ∙ ap (λ (s : ℕ). tryAt row s index) (sym e)) (both .1))

@@ -14,7 +14,7 @@ use Rattle.layout.specs.Flow.{Access, Task}
 use Rattle.steps.specs.Operations.{Effect}
 use Rattle.steps.specs.Machine.{Counter, Place, Machine, put, counter, withShared, withRow, withPlace}
 use Rattle.steps.specs.Step.{Try, waitWrite, waitReads, operate, endRead, zeroReads, postWrite, writes, outcome, afterRead, registerAll, change}
-use Rattle.machine.specs.Arrays.{counterOf, counterAt, placeOf, arrays, machineOf, noted, notedAll, Shape}
+use Rattle.machine.specs.Arrays.{counterOf, counterAt, placeOf, Arrays, arrays, machineOf, noted, notedAll, Shape}
 
 -- ---- a store
 
@@ -37,18 +37,21 @@ stored {B = B} f l i v d h = fun-ext (λ j. ap f (stored-at l i v d j h) ∙ go 
 
 -- ---- the machine after a store
 
-module _ (tasks : List Task) (cells : List ℕ) (shared : List (List ℕ)) (private : List (List (List ℕ))) (places : List (List ℕ)) where
-  pub shared-stored : (cell : ℕ) (numbers : List ℕ) → cell < length shared
-      → machineOf tasks (arrays cells (set shared cell numbers) private places)
-      ≡ withShared (machineOf tasks (arrays cells shared private places)) cell (counterOf numbers)
-  shared-stored cell numbers h =
-      λ i. record { cells = cells; shared = stored counterOf shared cell numbers [] h i; private = λ w c. counterAt (getD private w []) c; places = λ w. placeOf tasks (getD places w []) }
+module _ (tasks : List Task) (kept : Arrays) where
+  abbrev m : Machine
+  m = machineOf tasks kept
 
-  pub place-stored : (w : ℕ) (numbers : List ℕ) → w < length places
-      → machineOf tasks (arrays cells shared private (set places w numbers))
-      ≡ withPlace (machineOf tasks (arrays cells shared private places)) w (placeOf tasks numbers)
+  pub shared-stored : (cell : ℕ) (numbers : List ℕ) → cell < length (kept .shared)
+      → machineOf tasks (arrays (kept .cells) (set (kept .shared) cell numbers) (kept .private) (kept .places))
+      ≡ withShared m cell (counterOf numbers)
+  shared-stored cell numbers h =
+      λ i. record { cells = m .cells; shared = stored counterOf (kept .shared) cell numbers [] h i; private = m .private; places = m .places }
+
+  pub place-stored : (w : ℕ) (numbers : List ℕ) → w < length (kept .places)
+      → machineOf tasks (arrays (kept .cells) (kept .shared) (kept .private) (set (kept .places) w numbers))
+      ≡ withPlace m w (placeOf tasks numbers)
   place-stored w numbers h =
-      λ i. record { cells = cells; shared = counterAt shared; private = λ w. counterAt (getD private w []); places = stored (placeOf tasks) places w numbers [] h i }
+      λ i. record { cells = m .cells; shared = m .shared; private = m .private; places = stored (placeOf tasks) (kept .places) w numbers [] h i }
 
 -- ---- the counters keep their sizes
 
@@ -79,14 +82,15 @@ pub record RowOnly (shared : List (List ℕ)) (before after : List (List (List �
   pub here : counterAt (getD after w []) ≡ row
   pub elsewhere : (v : ℕ) → v ≢ w → getD after v [] ≡ getD before v []
 
-pub row-replaced : (tasks : List Task) (cells : List ℕ) (shared : List (List ℕ)) (before after : List (List (List ℕ))) (places : List (List ℕ)) (w : ℕ) (row : ℕ → Counter)
-    → RowOnly shared before after w row
-    → machineOf tasks (arrays cells shared after places) ≡ withRow (machineOf tasks (arrays cells shared before places)) w row
-row-replaced tasks cells shared before after places w row only =
-    λ i. record { cells = cells; shared = counterAt shared; private = fun-ext (λ v. go v (eqb v w) refl) i; places = λ v. placeOf tasks (getD places v []) }
+pub row-replaced : (tasks : List Task) (kept : Arrays) (private′ : List (List (List ℕ))) (w : ℕ) (row : ℕ → Counter)
+    → RowOnly (kept .shared) (kept .private) private′ w row
+    → machineOf tasks (arrays (kept .cells) (kept .shared) private′ (kept .places)) ≡ withRow (machineOf tasks kept) w row
+row-replaced tasks kept private′ w row only =
+    let m = machineOf tasks kept in
+    λ i. record { cells = m .cells; shared = m .shared; private = fun-ext (λ v. go v (eqb v w) refl) i; places = m .places }
   where
-    go : (v : ℕ) (same : Bool) → eqb v w ≡ same → counterAt (getD after v []) ≡ cond same row (counterAt (getD before v []))
-    go v true t = ap (λ (k : ℕ). counterAt (getD after k [])) (eqb-true v w t) ∙ only .here
+    go : (v : ℕ) (same : Bool) → eqb v w ≡ same → counterAt (getD private′ v []) ≡ cond same row (counterAt (getD (kept .private) v []))
+    go v true t = ap (λ (k : ℕ). counterAt (getD private′ k [])) (eqb-true v w t) ∙ only .here
     go v false t = ap counterAt (only .elsewhere v (eqb-false v w t))
 
 module _ (shared : List (List ℕ)) (w number : ℕ) (h : w < 8) where
@@ -137,19 +141,19 @@ module _ (shared : List (List ℕ)) (w number : ℕ) (h : w < 8) where
 
 -- ---- what does not look at the tasks and the places
 
+-- whether a step is held is told by the counters alone
+pub outcome-of : (tasks : List Task) (kept : Arrays) (w : ℕ) (try : Try)
+    → outcome (machineOf [] (arrays [] (kept .shared) (kept .private) [])) w try ≡ outcome (machineOf tasks kept) w try
+unfolding outcome
+outcome-of tasks kept w (waitWrite c) = refl
+outcome-of tasks kept w (waitReads c) = refl
+outcome-of tasks kept w (operate o) = refl
+outcome-of tasks kept w (endRead c) = refl
+outcome-of tasks kept w (zeroReads c) = refl
+outcome-of tasks kept w (postWrite c) = refl
+
 abbrev withPlaces : (ℕ → Place) → Machine → Machine
 withPlaces places m = record { cells = m .cells; shared = m .shared; private = m .private; places = places }
-
--- whether a step is held is told by the counters alone
-pub outcome-of : (tasks : List Task) (cells : List ℕ) (shared : List (List ℕ)) (private : List (List (List ℕ))) (places : List (List ℕ)) (w : ℕ) (try : Try)
-    → outcome (machineOf [] (arrays [] shared private [])) w try ≡ outcome (machineOf tasks (arrays cells shared private places)) w try
-unfolding outcome
-outcome-of tasks cells shared private places w (waitWrite c) = refl
-outcome-of tasks cells shared private places w (waitReads c) = refl
-outcome-of tasks cells shared private places w (operate o) = refl
-outcome-of tasks cells shared private places w (endRead c) = refl
-outcome-of tasks cells shared private places w (zeroReads c) = refl
-outcome-of tasks cells shared private places w (postWrite c) = refl
 
 change-places : (does : Effect) (number : ℕ) (m : Machine) (places : ℕ → Place) (w : ℕ) (try : Try)
     → withPlaces places (change does number m w try) ≡ change does number (withPlaces places m) w try
@@ -161,10 +165,13 @@ change-places does number m places w (endRead c) = refl
 change-places does number m places w (zeroReads c) = refl
 change-places does number m places w (postWrite c) = refl
 
--- a change of the counters and the cells is the same under any places
-pub change-of : (tasks : List Task) (cells cells′ : List ℕ) (shared shared′ : List (List ℕ)) (private private′ : List (List (List ℕ))) (places : List (List ℕ)) (does : Effect) (number w : ℕ) (try : Try)
-    → machineOf [] (arrays cells′ shared′ private′ []) ≡ change does number (machineOf [] (arrays cells shared private [])) w try
-    → machineOf tasks (arrays cells′ shared′ private′ places) ≡ change does number (machineOf tasks (arrays cells shared private places)) w try
-change-of tasks cells cells′ shared shared′ private private′ places does number w try e =
-    ap (withPlaces (λ v. placeOf tasks (getD places v []))) e
-    ∙ change-places does number (machineOf [] (arrays cells shared private [])) (λ v. placeOf tasks (getD places v [])) w try
+-- what is changed is the same under any tasks and places
+pub change-of : (tasks : List Task) (kept : Arrays) (cells′ : List ℕ) (shared′ : List (List ℕ)) (private′ : List (List (List ℕ)))
+    → (does : Effect) (number w : ℕ) (try : Try)
+    → machineOf [] (arrays cells′ shared′ private′ [])
+    ≡ change does number (machineOf [] (arrays (kept .cells) (kept .shared) (kept .private) [])) w try
+    → machineOf tasks (arrays cells′ shared′ private′ (kept .places)) ≡ change does number (machineOf tasks kept) w try
+change-of tasks kept cells′ shared′ private′ does number w try e =
+    let m = machineOf tasks kept in
+    ap (withPlaces (m .places)) e
+    ∙ change-places does number (machineOf [] (arrays (kept .cells) (kept .shared) (kept .private) [])) (m .places) w try

@@ -33,58 +33,59 @@ change-size does number m w (endRead c) = refl
 change-size does number m w (zeroReads c) = refl
 change-size does number m w (postWrite c) = refl
 
-module _ (row : List ℕ) (w : ℕ) (cells : List ℕ) (shared : List (List ℕ)) (private : List (List (List ℕ))) (places : List (List ℕ)) where
-  abbrev before : Arrays
-  before = arrays cells shared private places
-
+module _ (row : List ℕ) (w : ℕ) (kept : Arrays) where
   abbrev try : Try
-  try = tryAt row (stageAt before w) (indexAt before w)
+  try = tryAt row (stageAt kept w) (indexAt kept w)
 
   abbrev then : List ℕ
-  then = nextPlace row (passedAt before w) (stageAt before w) (indexAt before w)
+  then = nextPlace row (passedAt kept w) (stageAt kept w) (indexAt kept w)
+
+  abbrev number : ℕ
+  number = passedAt kept w + 1
 
   -- the counters say that it advances, the change is made, and the next place is stored
   pub own-step-made : (why : Outcome) (cells′ : List ℕ) (shared′ : List (List ℕ)) (private′ : List (List (List ℕ))) (next : List ℕ)
       → why ≡ advanced
-      → why ≡ outcome (machineOf [] (arrays [] shared private [])) w try
-      → Changed w (passedAt before w + 1) (arrays cells shared private []) try (arrays cells′ shared′ private′ [])
+      → why ≡ outcome (machineOf [] (arrays [] (kept .shared) (kept .private) [])) w try
+      → Changed w number (arrays (kept .cells) (kept .shared) (kept .private) []) try (arrays cells′ shared′ private′ [])
       → next ≡ then
-      → w < length places
-      → OwnStep row w before why (arrays cells′ shared′ private′ (set places w next))
+      → w < length (kept .places)
+      → OwnStep row w kept why (arrays cells′ shared′ private′ (set (kept .places) w next))
   unfolding attempted
   own-step-made why cells′ shared′ private′ next e told changed is h =
       record {
         shape = changed .0;
         cells-size =
             ap (λ (m : Machine). length (m .cells)) (changed .1)
-            ∙ change-size effect (passedAt before w + 1) (machineOf [] (arrays cells shared private [])) w try;
-        place-is = inr (ap (set places w) is);
+            ∙ change-size effect number (machineOf [] (arrays (kept .cells) (kept .shared) (kept .private) [])) w try;
+        place-is = inr (ap (set (kept .places) w) is);
         machine-is = λ tasks.
-            let m = machineOf tasks before in
-            let changed-to = change effect (passedAt before w + 1) m w try in
+            let m = machineOf tasks kept in
+            let changed-to = change effect number m w try in
             let made = withPlace changed-to w (placeOf tasks then) in
             ap (stepped why)
-            (place-stored tasks cells′ shared′ private′ places w next h
+            (place-stored tasks (arrays cells′ shared′ private′ (kept .places)) w next h
             ∙ ap (λ (to : Machine). withPlace to w (placeOf tasks next))
-            (change-of tasks cells cells′ shared shared′ private private′ places effect (passedAt before w + 1) w try (changed .1))
+            (change-of tasks kept cells′ shared′ private′ effect number w try (changed .1))
             ∙ ap (λ (to : List ℕ). withPlace changed-to w (placeOf tasks to)) is)
             ∙ ap (λ (y : Outcome). stepped y made) e
-            ∙ ap (λ (y : Outcome). attempted y m made) (sym e ∙ told ∙ outcome-of tasks cells shared private places w try);
+            ∙ ap (λ (y : Outcome). attempted y m made) (sym e ∙ told ∙ outcome-of tasks kept w try);
       }
 
   -- the counters say why it is held
-  pub own-step-held : (why : Outcome) → Shape shared private → why ≡ outcome (machineOf [] (arrays [] shared private [])) w try
+  pub own-step-held : (why : Outcome) → Shape (kept .shared) (kept .private)
+      → why ≡ outcome (machineOf [] (arrays [] (kept .shared) (kept .private) [])) w try
       → ((m after : Machine) → stepped why m ≡ attempted why m after)
-      → OwnStep row w before why before
+      → OwnStep row w kept why kept
   own-step-held why shape told held =
       record {
         shape = shape;
         cells-size = refl;
         place-is = inl refl;
         machine-is = λ tasks.
-            let m = machineOf tasks before in
-            let made = withPlace (change effect (passedAt before w + 1) m w try) w (placeOf tasks then) in
-            held m made ∙ ap (λ (y : Outcome). attempted y m made) (told ∙ outcome-of tasks cells shared private places w try);
+            let m = machineOf tasks kept in
+            let made = withPlace (change effect number m w try) w (placeOf tasks then) in
+            held m made ∙ ap (λ (y : Outcome). attempted y m made) (told ∙ outcome-of tasks kept w try);
       }
 
 -- ---- a step of a named worker
@@ -103,10 +104,7 @@ standing-kept file tasks places w next standing h stands =
     go v l true = stands
     go v l false = standing .stands v l
 
-module _ (file : List ℕ) (tasks w : ℕ) (cells : List ℕ) (shared : List (List ℕ)) (private : List (List (List ℕ))) (places : List (List ℕ)) (sound : Sound file tasks (arrays cells shared private places)) (h : w < 8) where
-  abbrev kept : Arrays
-  kept = arrays cells shared private places
-
+module _ (file : List ℕ) (tasks w : ℕ) (kept : Arrays) (sound : Sound file tasks kept) (h : w < 8) where
   abbrev passed : ℕ
   passed = passedAt kept w
 
@@ -116,7 +114,7 @@ module _ (file : List ℕ) (tasks w : ℕ) (cells : List ℕ) (shared : List (Li
   abbrev m : Machine
   m = machineOf (tasksIn file tasks) kept
 
-  has-place : w < length places
+  has-place : w < length (kept .places)
   has-place = omega (arith, sound .places-size)
 
   -- past the last task
@@ -132,7 +130,7 @@ module _ (file : List ℕ) (tasks w : ℕ) (cells : List ℕ) (shared : List (Li
     here : drop passed (tasksIn file tasks) ≡ taskOf row ∷ drop (passed + 1) (tasksIn file tasks)
     here = each-drop tasks (λ i. taskOf (rowAt file (i + 1))) passed l
 
-    fits : RowFits row (length cells)
+    fits : RowFits row (length (kept .cells))
     fits = sound .ready .rows (passed + 1) (omega arith) (omega arith)
 
     stands : Stands row (stageAt kept w) (indexAt kept w)
@@ -156,31 +154,31 @@ module _ (file : List ℕ) (tasks w : ℕ) (cells : List ℕ) (shared : List (Li
 
     -- a task of another owner
     pub step-other : (private′ : List (List (List ℕ))) → (getD row 0 0 ≡ w → ⊥)
-        → private′ ≡ notedAll private w (passed + 1) (taskOf row .accesses)
-        → StepDone file tasks w kept advanced (arrays cells shared private′ (set places w ((passed + 1) ∷ 0 ∷ 0 ∷ [])))
+        → private′ ≡ notedAll (kept .private) w (passed + 1) (taskOf row .accesses)
+        → StepDone file tasks w kept advanced (arrays (kept .cells) (kept .shared) private′ (set (kept .places) w ((passed + 1) ∷ 0 ∷ 0 ∷ [])))
     unfolding Stands
     step-other private′ other is =
         let all = tasksIn file tasks in
         let accesses = taskOf row .accesses in
-        let noted-in = notedAll private w (passed + 1) accesses in
+        let noted-in = notedAll (kept .private) w (passed + 1) accesses in
         let next = (passed + 1) ∷ 0 ∷ 0 ∷ [] in
         let row′ = registerAll (passed + 1) accesses (m .private w) in
-        let only = all-noted-only shared w (passed + 1) h private accesses counted (sound .shape) in
+        let only = all-noted-only (kept .shared) w (passed + 1) h (kept .private) accesses counted (sound .shape) in
         record {
           sound =
               record {
                 ready = sound .ready;
-                shape = subst (Shape shared) (sym is) (only .shape);
-                places-size = length-set places w next ∙ sound .places-size;
+                shape = subst (Shape (kept .shared)) (sym is) (only .shape);
+                places-size = length-set (kept .places) w next ∙ sound .places-size;
                 standing =
-                    standing-kept file tasks places w next (sound .standing) has-place
+                    standing-kept file tasks (kept .places) w next (sound .standing) has-place
                     (λ more. sound .ready .rows (passed + 1 + 1) (omega arith) (omega arith) .some-access);
               };
           machine-is =
               ap (stepped advanced)
-              (ap (λ (p : List (List (List ℕ))). machineOf all (arrays cells shared p (set places w next))) is
-              ∙ place-stored all cells shared noted-in places w next has-place
-              ∙ ap (λ (to : Machine). withPlace to w (placeOf all next)) (row-replaced all cells shared private noted-in places w row′ only)
+              (ap (λ (p : List (List (List ℕ))). machineOf all (arrays (kept .cells) (kept .shared) p (set (kept .places) w next))) is
+              ∙ place-stored all (arrays (kept .cells) (kept .shared) noted-in (kept .places)) w next has-place
+              ∙ ap (λ (to : Machine). withPlace to w (placeOf all next)) (row-replaced all kept noted-in w row′ only)
               ∙ ap (λ (made : ℕ). withPlace (withRow m w row′) w (place (passed + 1) made)) (none-made (drop (passed + 1) all)))
               ∙ sym (step-at false (ne-eqb (getD row 0 0) w other));
         }
@@ -236,10 +234,10 @@ module _ (file : List ℕ) (tasks w : ℕ) (cells : List ℕ) (shared : List (Li
         Stand : List (List ℕ) → Type 0
         Stand to = (length to ≡ 8) × Standing file tasks to
 
-        stand : (after .places ≡ places) ⊎ (after .places ≡ set places w next) → Stand (after .places)
+        stand : (after .places ≡ kept .places) ⊎ (after .places ≡ set (kept .places) w next) → Stand (after .places)
         stand (inl e) = subst Stand (sym e) (sound .places-size, sound .standing)
         stand (inr e) =
             subst Stand (sym e) (
-              length-set places w next ∙ sound .places-size,
-              standing-kept file tasks places w next (sound .standing) has-place (next-stands file tasks passed stage index some l stands next refl),
+              length-set (kept .places) w next ∙ sound .places-size,
+              standing-kept file tasks (kept .places) w next (sound .standing) has-place (next-stands file tasks passed stage index some l stands next refl),
             )

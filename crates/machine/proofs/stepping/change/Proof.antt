@@ -1,5 +1,6 @@
 -- `machine::stepping::change` meets its contract: at each stage the code stores what the rules change at the own step tried there.
 use mathlib.Core.Path.{_≡_, sym, ap, _∙_}
+use mathlib.Core.List.{[]}
 use Prim.Native.Nat.{ℕ, _<_}
 use native.Mathlib.Omega.{arith}
 use borrow.Author.Needs.{needs}
@@ -7,15 +8,20 @@ use lib.ListN.{getD}
 use Rattle.layout.specs.Row.{accessAt, operationAt}
 use Rattle.steps.specs.Operations.{effect, operated}
 use Rattle.steps.specs.Step.{writes}
+use Rattle.machine.specs.Arrays.{Arrays, arrays}
 use Rattle.machine.proofs.Changes.{five-stages, at-operation, at-access, waited, made, posted, zeroed, ended}
 use Rattle.machine.proofs.stepping.change.Statement.{statement}
 use Rattle.machine.proofs.stepping.change.Tie as tie
+
+-- what is lent where the function starts
+abbrev lent : tie.Start → Arrays
+lent start = arrays (start .args .cells .now) (start .args .shared .now) (start .args .private .now) []
 
 returns : tie.Need-returns
 returns c =
     let start = c .before .before .before in
     let a = start .args in
-    waited (a .row .now) (a .w) (a .number) (a .index) (a .cells .now) (a .shared .now) (a .private .now) (start .pre .1 .0) (a .stage) (c .if1 .taken)
+    waited (a .row .now) (a .w) (a .number) (a .index) (lent start) (start .pre .1 .0) (a .stage) (c .if1 .taken)
 
 offset-requires : tie.Need-offset-requires
 offset-requires c κs = search needs
@@ -24,10 +30,11 @@ operate-requires : tie.Need-operate-requires
 operate-requires c κs =
     let start = c .before .before .before .before .before .before in
     let a = start .args in
-    let at : a .index < getD (a .row .now) 2 0 = at-operation (a .row .now) (a .stage) (a .index) (c .before .if2 .taken) (start .pre .0 .1) in
+    let fits = start .pre .0 .0 in
+    let at = at-operation (a .row .now) (a .stage) (a .index) (c .before .if2 .taken) (start .pre .0 .1) in
     rw (c .before .before .offset .ensures) (
-      (start .pre .0 .0 .size, omega (arith, start .pre .0 .0 .few-operations)),
-      (start .pre .0 .0 .writes-cells (a .index) at, start .pre .0 .0 .reads-cells (a .index) at),
+      (fits .size, omega (arith, at, fits .few-operations)),
+      (fits .writes-cells (a .index) at, fits .reads-cells (a .index) at),
     )
 
 same-length : tie.Need-same-length
@@ -37,26 +44,32 @@ returns-2 : tie.Need-returns-2
 returns-2 c =
     let start = c .before .before .before .before .before .before .before .before .before in
     let a = start .args in
+    let done = c .before .before .operate in
     let operation = ap (λ (i : ℕ). operated effect (operationAt (a .row .now) i) (a .cells .now)) (c .before .before .before .before .before .offset .ensures) in
-    made (a .row .now) (a .w) (a .number) (a .index) (a .cells .now) (a .shared .now) (a .private .now) (start .pre .1 .0) (a .stage) (c .before .before .operate .last .1 .1 .0) (c .before .before .before .before .if2 .taken)
-    (c .before .before .operate .ensures ∙ operation)
+    made (a .row .now) (a .w) (a .number) (a .index) (lent start) (start .pre .1 .0) (a .stage) (done .last .1 .1 .0) (c .before .before .before .before .if2 .taken) (done .ensures ∙ operation)
 
--- past the operations the index is an access's
-access-index : (c : tie.Else2)
-    → c .before .before .before .before .before .args .index < getD (c .before .before .before .before .before .args .row .now) 1 0
+-- where the function starts, as seen past the operations and past the test of the last stage
+abbrev past-operations : tie.Else2 → tie.Start
+past-operations c = c .before .before .before .before .before
+
+abbrev past-post : tie.Else3 → tie.Start
+past-post c = past-operations (c .before .before .before .before .before)
+
+-- there the index is an access's
+access-index : (c : tie.Else2) → past-operations c .args .index < getD (past-operations c .args .row .now) 1 0
 access-index c =
-    let start = c .before .before .before .before .before in
+    let start = past-operations c in
     let a = start .args in
     at-access (a .row .now) (a .stage) (a .index) (c .if2 .left) (start .pre .0 .1)
 
 -- the cell that is read is the access's, and it has a counter
 cell-is : (c : tie.After-index)
-    → c .index .result ≡ accessAt (c .before .before .before .before .before .before .before .args .row .now) (c .before .before .before .before .before .before .before .args .index) .cell
+    → c .index .result ≡ accessAt (past-operations (c .before .before) .args .row .now) (past-operations (c .before .before) .args .index) .cell
 cell-is c = rw (c .before .before .before .offset .ensures) at (c .index .ensures .0)
 
 within : (c : tie.After-index) → c .index .result < 32
 within c =
-    let start = c .before .before .before .before .before .before .before in
+    let start = past-operations (c .before .before) in
     rw (cell-is c) (start .pre .0 .0 .access-cells (start .args .index) (access-index (c .before .before)))
 
 mul-index : tie.Need-mul-index
@@ -68,7 +81,6 @@ add-index c = search needs
 shared-slice-read-index : tie.Need-shared-slice-read-index
 shared-slice-read-index c =
     let start = c .before .before .before .before .before .before in
-    let a = start .args in
     omega (arith, access-index (c .before), start .pre .0 .0 .size, start .pre .0 .0 .few-accesses)
 
 index-requires : tie.Need-index-requires
@@ -102,34 +114,35 @@ note-requires : tie.Need-note-requires
 note-requires c κs =
     let start = c .before .before .before .before .before .before .before .before .before .before .before in
     let a = start .args in
-    let cell = c .before .before .before .before .index .result in
-    (start .pre .0 .2, within (c .before .before .before .before), omega (arith, start .pre .1 .1 .private-reads (a .w) cell))
+    let read = c .before .before .before .before in
+    (start .pre .0 .2, within read, omega (arith, start .pre .1 .1 .private-reads (a .w) (read .index .result)))
 
 returns-3 : tie.Need-returns-3
 returns-3 c =
     let start = c .before .before .before .before .before .before .before .before .before .before .before .before in
     let a = start .args in
     let read = c .before .before .before .before .before in
-    posted (a .row .now) (a .w) (a .number) (a .index) (a .cells .now) (a .shared .now) (a .private .now) (start .pre .1 .0) (read .index .result) (start .pre .0 .2) (within read) (cell-is read) (a .stage) (c .note .last .0) (c .before .before .if3 .taken) (c .note .ensures)
+    posted (a .row .now) (a .w) (a .number) (a .index) (lent start) (start .pre .1 .0) (read .index .result) (start .pre .0 .2) (within read) (cell-is read) (a .stage) (c .note .last .0)
+    (c .before .before .if3 .taken)
+    (c .note .ensures)
 
 is-write-requires : tie.Need-is-write-requires
 is-write-requires c κs =
     let start = c .before .before .before .before .before .before .before .before .before .before in
-    let a = start .args in
     rw (c .before .before .before .before .before .before .offset .ensures) (start .pre .0 .0 .size, omega (arith, access-index (c .before .before .before .before .before), start .pre .0 .0 .few-accesses))
 
--- past the last of the other stages it is the first end
-third : (c : tie.Else3) → c .before .before .before .before .before .before .before .before .before .before .args .stage ≡ 3
+-- the stage is the third where it is none of the others
+third : (c : tie.Else3) → past-post c .args .stage ≡ 3
 third c =
-    let start = c .before .before .before .before .before .before .before .before .before .before in
+    let start = past-post c in
     let a = start .args in
     omega (arith, five-stages (a .row .now) (a .stage) (a .index) (start .pre .0 .1), c .before .before .before .before .before .if2 .left)
 
+-- the mode that is read is the access's
 mode-is : (c : tie.After-is-write)
-    → writes (accessAt (c .before .before .before .before .before .before .before .before .before .before .before .args .row .now) (c .before .before .before .before .before .before .before .before .before .before .before .args .index)) ≡ c .is-write .result
+    → writes (accessAt (past-post (c .before) .args .row .now) (past-post (c .before) .args .index)) ≡ c .is-write .result
 mode-is c =
-    let a = c .before .before .before .before .before .before .before .before .before .before .before .args in
-    ap (λ (i : ℕ). writes (accessAt (a .row .now) i)) (sym (c .before .before .before .before .before .before .before .offset .ensures))
+    ap (λ (i : ℕ). writes (accessAt (past-post (c .before) .args .row .now) i)) (sym (c .before .before .before .before .before .before .before .offset .ensures))
     ∙ sym (c .is-write .ensures)
 
 mul-t38 : tie.Need-mul-t38
@@ -143,12 +156,13 @@ returns-4 c =
     let start = c .before .before .before .before .before .before .before .before .before .before .before .before in
     let a = start .args in
     let read = c .before .before .before .before .before in
-    zeroed (a .row .now) (a .w) (a .number) (a .index) (a .cells .now) (a .shared .now) (a .private .now) (start .pre .1 .0) (read .index .result) (start .pre .0 .2) (within read) (cell-is read) (a .stage) (third (c .before .before)) (mode-is (c .before) ∙ c .if4 .taken)
+    zeroed (a .row .now) (a .w) (a .number) (a .index) (lent start) (start .pre .1 .0) (read .index .result) (start .pre .0 .2) (within read) (cell-is read) (a .stage)
+    (third (c .before .before))
+    (mode-is (c .before) ∙ c .if4 .taken)
 
 add-t25 : tie.Need-add-t25
 add-t25 c =
     let start = c .before .before .before .before .before .before .before .before .before .before .before .before in
-    let a = start .args in
     omega (arith, start .pre .1 .1 .shared-reads (c .before .before .before .before .before .index .result))
 
 mul-t17 : tie.Need-mul-t17
@@ -161,15 +175,18 @@ note-requires-2 : tie.Need-note-requires-2
 note-requires-2 c κs =
     let start = c .before .before .before .before .before .before .before .before .before .before .before .before .before in
     let a = start .args in
-    let cell = c .before .before .before .before .before .before .index .result in
-    (start .pre .0 .2, within (c .before .before .before .before .before .before), omega (arith, start .pre .1 .1 .private-reads (a .w) cell))
+    let read = c .before .before .before .before .before .before in
+    (start .pre .0 .2, within read, omega (arith, start .pre .1 .1 .private-reads (a .w) (read .index .result)))
 
 returns-5 : tie.Need-returns-5
 returns-5 c =
     let start = c .before .before .before .before .before .before .before .before .before .before .before .before .before .before in
     let a = start .args in
     let read = c .before .before .before .before .before .before .before in
-    ended (a .row .now) (a .w) (a .number) (a .index) (a .cells .now) (a .shared .now) (a .private .now) (start .pre .1 .0) (read .index .result) (start .pre .0 .2) (within read) (cell-is read) (a .stage) (c .note2 .last .0) (third (c .before .before .before .before)) (mode-is (c .before .before .before) ∙ c .before .before .if4 .left) (c .note2 .ensures)
+    ended (a .row .now) (a .w) (a .number) (a .index) (lent start) (start .pre .1 .0) (read .index .result) (start .pre .0 .2) (within read) (cell-is read) (a .stage) (c .note2 .last .0)
+    (third (c .before .before .before .before))
+    (mode-is (c .before .before .before) ∙ c .before .before .if4 .left)
+    (c .note2 .ensures)
 
 pub change-spec : {M : Type 1} → statement M
 change-spec =

@@ -2,15 +2,18 @@
 use mathlib.Core.Path.{_≡_, refl, ap}
 use mathlib.Core.Logic.{⊎-elim}
 use mathlib.Core.List.{[], _∷_}
+use Prim.Native.Nat.{_<_}
 use native.Mathlib.Omega.{arith}
 use borrow.Author.Needs.{needs}
-use lib.ListN.{length, getD}
+use lib.ListN.{length}
 use types.Run.{OneOf}
 use denote.Enum.Declared.{tagOf}
+use Rattle.layout.specs.Row.{accessAt}
 use Rattle.steps.specs.Machine.{Machine}
 use Rattle.steps.specs.Step.{stepped, attempted}
 use Rattle.machine.specs.declared.Outcome.{Outcome}
 use Rattle.machine.specs.declared.Outcome.the-variants.{Advanced, PastLast, WriteDiffers, ReadsDiffer}
+use Rattle.machine.specs.Arrays.{Arrays, arrays, stageAt, indexAt}
 use Rattle.machine.specs.Outcomes.{outcomeOf}
 use Rattle.machine.proofs.Outcome as declared
 use Rattle.machine.proofs.Changes.{five-stages, small-access, small-index}
@@ -27,6 +30,18 @@ held-back Advanced keys m after =
 held-back PastLast keys m after = refl
 held-back (WriteDiffers cell) keys m after = refl
 held-back (ReadsDiffer cell) keys m after = refl
+
+-- what is lent where the function starts
+abbrev lent : tie.Start → Arrays
+lent start = arrays (start .args .cells .now) (start .args .shared .now) (start .args .private .now) (start .args .places .now)
+
+-- away from the operations the worker stands at an access
+access-at : (start : tie.Start) → (stageAt (lent start) (start .args .w) ≡ 2 → ⊥)
+    → (indexAt (lent start) (start .args .w) < 4)
+    × (accessAt (start .args .row .now) (indexAt (lent start) (start .args .w)) .cell < 32)
+access-at start other =
+    let a = start .args in
+    small-access (a .row .now) (length (a .cells .now)) (stageAt (lent start) (a .w)) (indexAt (lent start) (a .w)) (start .pre .0 .0) (start .pre .1 .0) other
 
 mul-passed : tie.Need-mul-passed
 mul-passed c = search needs
@@ -59,10 +74,7 @@ held-requires : tie.Need-held-requires
 held-requires c κs =
     let start = c .before .before .before .before .before .before .before in
     let a = start .args in
-    (
-      (start .pre .0 .0 .size, start .pre .0 .1),
-      λ wait. small-access (a .row .now) (length (a .cells .now)) (getD (getD (a .places .now) (a .w) []) 1 0) (getD (getD (a .places .now) (a .w) []) 2 0) (start .pre .0 .0) (start .pre .1 .0) (λ two. omega arith),
-    )
+    ((start .pre .0 .0 .size, start .pre .0 .1), λ wait. access-at start (λ two. omega arith))
 
 enum-told : tie.Need-enum-told
 enum-told c = search needs
@@ -77,11 +89,16 @@ next-requires : tie.Need-next-requires
 next-requires c κs =
     let start = c .before .before .before .before .before .before .before .before .before .before .before .before .before .before .before .before in
     let a = start .args in
+    let kept = lent start in
     let stands = start .pre .1 .0 in
-    let fits = start .pre .0 .0 in
-    (
-      (fits .size, start .pre .0 .3, five-stages (a .row .now) (getD (getD (a .places .now) (a .w) []) 1 0) (getD (getD (a .places .now) (a .w) []) 2 0) stands, small-index (a .row .now) (length (a .cells .now)) (getD (getD (a .places .now) (a .w) []) 1 0) (getD (getD (a .places .now) (a .w) []) 2 0) fits stands),
-      λ other. small-access (a .row .now) (length (a .cells .now)) (getD (getD (a .places .now) (a .w) []) 1 0) (getD (getD (a .places .now) (a .w) []) 2 0) fits stands other .0,
+    let fits = start .pre .0 .0 in (
+      (
+        fits .size,
+        start .pre .0 .3,
+        five-stages (a .row .now) (stageAt kept (a .w)) (indexAt kept (a .w)) stands,
+        small-index (a .row .now) (length (a .cells .now)) (stageAt kept (a .w)) (indexAt kept (a .w)) fits stands,
+      ),
+      λ other. access-at start other .0,
     )
 
 mul-t34 : tie.Need-mul-t34
@@ -97,17 +114,25 @@ returns : tie.Need-returns
 returns c =
     let start = c .before .before .before .before .before .before .before .before .before .before .before .before .before .before .before .before .before in
     let a = start .args in
-    let done = c .before .before .before .change in
-    own-step-made (a .row .now) (a .w) (a .cells .now) (a .shared .now) (a .private .now) (a .places .now)
-    (outcomeOf (c .before .before .before .before .before .before .before .before .before .held .result)) (done .last .1 .1 .1 .1 .1 .0) (done .last .1 .1 .1 .1 .1 .1 .0) (done .last .1 .1 .1 .1 .1 .1 .1 .0) (c .next .result)
-    (ap outcomeOf (c .before .before .before .before .before .before .before .enum-told .given .1)) (c .before .before .before .before .before .before .before .before .before .held .ensures) (done .ensures) (c .next .ensures) (omega (arith, start .pre .0 .2))
+    let held = c .before .before .before .before .before .before .before .before .before .held in
+    let changed = c .before .before .before .change in
+    own-step-made (a .row .now) (a .w) (lent start) (outcomeOf (held .result))
+    (changed .last .1 .1 .1 .1 .1 .0)
+    (changed .last .1 .1 .1 .1 .1 .1 .0)
+    (changed .last .1 .1 .1 .1 .1 .1 .1 .0)
+    (c .next .result)
+    (ap outcomeOf (c .before .before .before .before .before .before .before .enum-told .given .1))
+    (held .ensures)
+    (changed .ensures)
+    (c .next .ensures)
+    (omega (arith, start .pre .0 .2))
 
 returns-2 : tie.Need-returns-2
 returns-2 c =
     let start = c .before .before .before .before .before .before .before .before .before in
     let a = start .args in
-    own-step-held (a .row .now) (a .w) (a .cells .now) (a .shared .now) (a .private .now) (a .places .now)
-    (outcomeOf (c .before .held .result)) (start .pre .1 .1 .0) (c .before .held .ensures) (held-back (c .before .held .result) (c .match .keys2))
+    let held = c .before .held in
+    own-step-held (a .row .now) (a .w) (lent start) (outcomeOf (held .result)) (start .pre .1 .1 .0) (held .ensures) (held-back (held .result) (c .match .keys2))
 
 pub own-step-spec : {M : Type 1} → statement M
 own-step-spec =

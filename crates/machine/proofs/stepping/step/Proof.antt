@@ -1,6 +1,6 @@
 -- `machine::stepping::step` meets its contract: the row that is read is the row of the worker's next task, and the three ways through the code are the rules' three cases.
 use mathlib.Core.Path.{_≡_, sym, ap, subst, _∙_}
-use mathlib.Core.List.{List, []}
+use mathlib.Core.List.{List}
 use Prim.Native.Nat.{ℕ, _+_}
 use native.Mathlib.Omega.{arith}
 use borrow.Author.Needs.{needs}
@@ -8,11 +8,15 @@ use lib.ListN.{length, getD}
 use Rattle.layout.specs.Bytes.{part}
 use Rattle.layout.specs.Row.{taskOf}
 use Rattle.layout.specs.File.{rowAt}
-use Rattle.machine.specs.Arrays.{arrays, notedAll, RowFits, OwnStep}
+use Rattle.machine.specs.Arrays.{Arrays, arrays, passedAt, notedAll, RowFits, OwnStep}
 use Rattle.machine.specs.Outcomes.{outcomeOf}
 use Rattle.machine.proofs.Steps.{step-past, step-other, step-own}
 use Rattle.machine.proofs.stepping.step.Statement.{statement}
 use Rattle.machine.proofs.stepping.step.Tie as tie
+
+-- what is lent where the function starts
+abbrev lent : tie.Start → Arrays
+lent start = arrays (start .args .cells .now) (start .args .shared .now) (start .args .private .now) (start .args .places .now)
 
 mul-passed : tie.Need-mul-passed
 mul-passed c = search needs
@@ -27,7 +31,7 @@ returns : tie.Need-returns
 returns c =
     let start = c .before .before .before .before in
     let a = start .args in
-    step-past (a .file .now) (a .tasks) (a .w) (a .cells .now) (a .shared .now) (a .private .now) (a .places .now) (start .pre .0 .0) (start .pre .0 .1) (c .if1 .taken)
+    step-past (a .file .now) (a .tasks) (a .w) (lent start) (start .pre .0 .0) (start .pre .0 .1) (c .if1 .taken)
 
 add-start : tie.Need-add-start
 add-start c = search needs
@@ -37,9 +41,7 @@ start-requires c κs = search needs
 
 -- the tasks that the worker has gone past, and the row of the next
 abbrev passed-by : tie.Else1 → ℕ
-passed-by c =
-    let a = c .before .before .before .before .args in
-    getD (getD (a .places .now) (a .w) []) 0 0
+passed-by c = passedAt (lent (c .before .before .before .before)) (c .before .before .before .before .args .w)
 
 abbrev row-of : tie.Else1 → List ℕ
 row-of c = rowAt (c .before .before .before .before .args .file .now) (passed-by c + 1)
@@ -102,18 +104,24 @@ returns-2 c =
     let start = c .before .before .before .before .before .before .before .before .before .before .before in
     let a = start .args in
     let from = c .before .before .before .before .before .before in
-    step-other (a .file .now) (a .tasks) (a .w) (a .cells .now) (a .shared .now) (a .private .now) (a .places .now) (start .pre .0 .0) (start .pre .0 .1) (from .before .if1 .left) (c .register .last .1 .1 .1 .0)
+    let noted-in : List ℕ → List (List (List ℕ)) = λ row. notedAll (a .private .now) (a .w) (passed-by (from .before) + 1) (taskOf row .accesses) in
+    step-other (a .file .now) (a .tasks) (a .w) (lent start) (start .pre .0 .0) (start .pre .0 .1) (from .before .if1 .left) (c .register .last .1 .1 .1 .0)
     (λ same. c .before .before .if2 .taken (owner-is (c .before .before .before) ∙ same))
-    (c .register .ensures ∙ ap (λ (row : List ℕ). notedAll (a .private .now) (a .w) (passed-by (from .before) + 1) (taskOf row .accesses)) (row-is from))
+    (c .register .ensures ∙ ap noted-in (row-is from))
 
 own-step-requires : tie.Need-own-step-requires
 own-step-requires c κs =
     let start = c .before .before .before .before .before .before .before .before .before .before .before .before .before in
     let a = start .args in
     let from = c .before .before .before .before .before .before .before .before in
+    let sound = start .pre .0 .0 in
+    let reads = start .pre .1 in
     rw (from .start .ensures) (
-      (row-fits (from .before), start .pre .0 .1, start .pre .0 .0 .places-size, omega (arith, start .pre .0 .0 .ready .few-tasks, from .before .if1 .left)),
-      (start .pre .0 .0 .standing .stands (a .w) (start .pre .0 .1) (from .before .if1 .left), (start .pre .0 .0 .shape, record { shared-reads = start .pre .1 .shared-reads; private-reads = start .pre .1 .private-reads })),
+      (row-fits (from .before), start .pre .0 .1, sound .places-size, omega (arith, sound .ready .few-tasks, from .before .if1 .left)),
+      (
+        sound .standing .stands (a .w) (start .pre .0 .1) (from .before .if1 .left),
+        (sound .shape, record { shared-reads = reads .shared-reads; private-reads = reads .private-reads }),
+      ),
     )
 
 same-length : tie.Need-same-length
@@ -125,11 +133,11 @@ returns-3 c =
     let a = start .args in
     let from = c .before .before .before .before .before .before .before .before .before .before .before in
     let done = c .before .before .own-step in
-    let before = arrays (a .cells .now) (a .shared .now) (a .private .now) (a .places .now) in
+    let why = outcomeOf (done .result) in
     let after = arrays (done .last .1 .1 .0) (done .last .1 .1 .1 .0) (done .last .1 .1 .1 .1 .0) (done .last .1 .1 .1 .1 .1 .0) in
-    step-own (a .file .now) (a .tasks) (a .w) (a .cells .now) (a .shared .now) (a .private .now) (a .places .now) (start .pre .0 .0) (start .pre .0 .1) (from .before .if1 .left) (outcomeOf (done .result)) after
+    step-own (a .file .now) (a .tasks) (a .w) (lent start) (start .pre .0 .0) (start .pre .0 .1) (from .before .if1 .left) why after
     (sym (owner-is (c .before .before .before .before .before .before .before .before)) ∙ c .before .before .before .before .before .before .before .if2 .left)
-    (subst (λ (row : List ℕ). OwnStep row (a .w) before (outcomeOf (done .result)) after) (row-is from) (done .ensures))
+    (subst (λ (row : List ℕ). OwnStep row (a .w) (lent start) why after) (row-is from) (done .ensures))
 
 pub step-spec : {M : Type 1} → statement M
 step-spec =
