@@ -98,8 +98,8 @@ module _ (row : List ℕ) (w number index : ℕ) (kept : Arrays) (shape : Shape 
         in (
           subst (Shape (stored .shared)) (sym is) (only .shape),
           ap (λ (p : List (List (List ℕ))). machineOf [] (arrays (kept .cells) (stored .shared) p (kept .places))) is
-          ∙ row-replaced [] stored (noted (kept .private) w cell isWrite number) w row′ only
-          ∙ ap (λ (to : Machine). withRow to w row′) (shared-stored [] kept cell numbers (omega (arith, shape .shared-size))),
+              ∙ row-replaced [] stored (noted (kept .private) w cell isWrite number) w row′ only
+              ∙ ap (λ (to : Machine). withRow to w row′) (shared-stored [] kept cell numbers (omega (arith, shape .shared-size))),
         )
 
     -- a try that is reached by an equation

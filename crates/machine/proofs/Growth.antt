@@ -18,14 +18,15 @@ use Rattle.steps.specs.Step.{Try, waitWrite, waitReads, operate, endRead, zeroR
 use Rattle.machine.specs.Arrays.{ReadsAtMost, Ready, settingIn, tasksIn}
 use Rattle.machine.proofs.Places.{access-count, shown-within}
 
--- ---- one counter replaced
-
-more-reads : (n k : ℕ) (m : Machine) → n ≤ k → ReadsAtMost n m → ReadsAtMost k m
+-- a higher limit
+pub more-reads : (n k : ℕ) (m : Machine) → n ≤ k → ReadsAtMost n m → ReadsAtMost k m
 more-reads n k m h r =
     record {
       shared-reads = λ c. omega (arith, r .shared-reads c);
       private-reads = λ w c. omega (arith, r .private-reads w c);
     }
+
+-- ---- one counter, or one row of them, replaced
 
 put-reads : (limit : ℕ) (row : ℕ → Counter) (cell : ℕ) (now : Counter) → ((c : ℕ) → row c .reads ≤ limit) → now .reads ≤ limit
     → (c : ℕ) → put row cell now c .reads ≤ limit

@@ -11,7 +11,6 @@ use borrow.Author.Tests.{lt-ltb, le-ltb, ltb-true, ltb-false}
 use lib.ListN.{length, getD, drop, length-append, length-drop, length-map}
 use lib.Seq.{drop-drop, drop-append-add}
 use lib.Dec.{ltb}
-use Rattle.layout.specs.Lists.{each}
 use Rattle.layout.specs.Flow.{Access, Operation, Task}
 use Rattle.layout.specs.Row.{accessAt, operationAt, taskOf}
 use Rattle.layout.specs.File.{rowAt}
@@ -86,12 +85,12 @@ width-more (access ∷ accesses) (suc index) none h =
 -- ---- a list from some index on
 
 module _ {A : Type 0} (l : List A) (k : ℕ) (x : A) (rest : List A) (e : drop k l ≡ x ∷ rest) where
-  -- what is left shows the element there
-  shown : drop k l ≡ x ∷ drop (k + 1) l
-  shown = e ∙ ap (λ (t : List A). x ∷ t) (sym (ap (drop 1) e) ∙ drop-drop 1 k l)
-
   shown-next : drop (k + 1) l ≡ rest
   shown-next = sym (drop-drop 1 k l) ∙ ap (drop 1) e
+
+  -- what is left shows the element there
+  shown : drop k l ≡ x ∷ drop (k + 1) l
+  shown = e ∙ ap (λ (t : List A). x ∷ t) (sym shown-next)
 
   pub shown-within : k < length l
   shown-within = let size : length l - k ≡ suc (length rest) = sym (length-drop k l) ∙ ap length e in omega arith
@@ -106,52 +105,62 @@ shown-made f (y ∷ l) (suc k) x rest after e = shown-made f l k x rest after e
 -- ---- the task that stands in a row
 
 module _ (row : List ℕ) where
-  pub access-count : length (taskOf row .accesses) ≡ getD row 1 0
+  abbrev task : Task
+  task = taskOf row
+
+  abbrev accesses : List Access
+  accesses = task .accesses
+
+  abbrev operations : List Operation
+  operations = task .operations
+
+  abbrev own : List Try
+  own = ownSteps task
+
+  pub access-count : length accesses ≡ getD row 1 0
   unfolding taskOf
   access-count = each-length (getD row 1 0) (accessAt row)
 
-  operation-count : length (taskOf row .operations) ≡ getD row 2 0
+  operation-count : length operations ≡ getD row 2 0
   unfolding taskOf
   operation-count = each-length (getD row 2 0) (operationAt row)
 
-  pub access-there : (index : ℕ) (none : Access) → index < getD row 1 0 → getD (taskOf row .accesses) index none ≡ accessAt row index
+  pub access-there : (index : ℕ) (none : Access) → index < getD row 1 0 → getD accesses index none ≡ accessAt row index
   unfolding taskOf
   access-there index none h = each-at (getD row 1 0) (accessAt row) index none h
 
   operation-there : (index : ℕ) → index < getD row 2 0
-      → drop index (taskOf row .operations) ≡ operationAt row index ∷ drop (index + 1) (taskOf row .operations)
+      → drop index operations ≡ operationAt row index ∷ drop (index + 1) operations
   unfolding taskOf
   operation-there index h = each-drop (getD row 2 0) (operationAt row) index h
 
   width-next : (index : ℕ) (isWrite : Bool) → index < getD row 1 0 → writes (accessAt row index) ≡ isWrite
-      → widthBefore (taskOf row .accesses) (index + 1) ≡ widthBefore (taskOf row .accesses) index + cond isWrite 2 1
+      → widthBefore accesses (index + 1) ≡ widthBefore accesses index + cond isWrite 2 1
   width-next index isWrite h t =
-      let within : index < length (taskOf row .accesses) = omega (arith, access-count) in
-      ap (widthBefore (taskOf row .accesses)) (add-one index)
-      ∙ width-more (taskOf row .accesses) index (accessAt row index) within
-      ∙ ap (λ (access : Access). widthBefore (taskOf row .accesses) index + width access) (access-there index (accessAt row index) h)
-      ∙ ap (λ (b : Bool). widthBefore (taskOf row .accesses) index + cond b 2 1) t
+      let within : index < length accesses = omega (arith, access-count) in
+      ap (widthBefore accesses) (add-one index)
+      ∙ width-more accesses index (accessAt row index) within
+      ∙ ap (λ (access : Access). widthBefore accesses index + width access) (access-there index (accessAt row index) h)
+      ∙ ap (λ (b : Bool). widthBefore accesses index + cond b 2 1) t
 
-  width-all : widthOf (taskOf row) ≡ widthBefore (taskOf row .accesses) (getD row 1 0)
-  width-all = ap (widthBefore (taskOf row .accesses)) access-count
+  width-all : widthOf task ≡ widthBefore accesses (getD row 1 0)
+  width-all = ap (widthBefore accesses) access-count
 
   -- the own steps past the waits, and past the operations
-  past-waits : (k : ℕ) → drop (widthOf (taskOf row) + k) (ownSteps (taskOf row))
-      ≡ drop k (map operate (taskOf row .operations) ++ ofEach ends (taskOf row .accesses))
+  past-waits : (k : ℕ) → drop (widthOf task + k) own ≡ drop k (map operate operations ++ ofEach ends accesses)
   unfolding ownSteps
   past-waits k =
-      ap (λ (n : ℕ). drop (n + k) (ownSteps (taskOf row))) (sym (steps-length waits as-many-waits (taskOf row .accesses)))
-      ∙ drop-append-add (ofEach waits (taskOf row .accesses)) (map operate (taskOf row .operations) ++ ofEach ends (taskOf row .accesses)) k
+      ap (λ (n : ℕ). drop (n + k) own) (sym (steps-length waits as-many-waits accesses))
+      ∙ drop-append-add (ofEach waits accesses) (map operate operations ++ ofEach ends accesses) k
 
-  past-operations : (k : ℕ) → drop (widthOf (taskOf row) + length (taskOf row .operations) + k) (ownSteps (taskOf row))
-      ≡ drop k (ofEach ends (taskOf row .accesses))
+  past-operations : (k : ℕ) → drop (widthOf task + length operations + k) own ≡ drop k (ofEach ends accesses)
   past-operations k =
-      ap (λ (n : ℕ). drop n (ownSteps (taskOf row))) (add-assoc (widthOf (taskOf row)) (length (taskOf row .operations)) k)
-      ∙ past-waits (length (taskOf row .operations) + k)
-      ∙ ap (λ (n : ℕ). drop (n + k) (map operate (taskOf row .operations) ++ ofEach ends (taskOf row .accesses))) (sym (length-map (taskOf row .operations) operate))
-      ∙ drop-append-add (map operate (taskOf row .operations)) (ofEach ends (taskOf row .accesses)) k
+      ap (λ (n : ℕ). drop n own) (add-assoc (widthOf task) (length operations) k)
+      ∙ past-waits (length operations + k)
+      ∙ ap (λ (n : ℕ). drop (n + k) (map operate operations ++ ofEach ends accesses)) (sym (length-map operations operate))
+      ∙ drop-append-add (map operate operations) (ofEach ends accesses) k
 
-  all-own-steps : length (ownSteps (taskOf row)) ≡ widthOf (taskOf row) + length (taskOf row .operations) + widthOf (taskOf row)
+  all-own-steps : length own ≡ widthOf task + length operations + widthOf task
   unfolding ownSteps
   all-own-steps =
       simp (length-append, length-map, steps-length waits as-many-waits, steps-length ends as-many-ends) (omega arith)
@@ -159,42 +168,40 @@ module _ (row : List ℕ) where
   -- ---- what is tried at a stage and an index
 
   waits-there : (index : ℕ) → index < getD row 1 0
-      → (rest : List Try) × (drop (widthBefore (taskOf row .accesses) index) (ownSteps (taskOf row)) ≡ waits (accessAt row index) ++ rest)
+      → (rest : List Try) × (drop (widthBefore accesses index) own ≡ waits (accessAt row index) ++ rest)
   unfolding ownSteps
   waits-there index h =
-      let later : List Try = map operate (taskOf row .operations) ++ ofEach ends (taskOf row .accesses) in
-      let within : index < length (taskOf row .accesses) = omega (arith, access-count) in
-      let rest : List Try = ofEach waits (drop (suc index) (taskOf row .accesses)) ++ later in (
+      let later : List Try = map operate operations ++ ofEach ends accesses in
+      let within : index < length accesses = omega (arith, access-count) in
+      let rest : List Try = ofEach waits (drop (suc index) accesses) ++ later in (
         rest,
-        steps-drop waits as-many-waits (taskOf row .accesses) index (accessAt row index) later within
-        ∙ ap (λ (access : Access). waits access ++ rest) (access-there index (accessAt row index) h),
+        steps-drop waits as-many-waits accesses index (accessAt row index) later within
+            ∙ ap (λ (access : Access). waits access ++ rest) (access-there index (accessAt row index) h),
       )
 
   operate-there : (index : ℕ) → index < getD row 2 0
-      → (rest : List Try) × (drop (widthOf (taskOf row) + index) (ownSteps (taskOf row)) ≡ operate (operationAt row index) ∷ rest)
+      → (rest : List Try) × (drop (widthOf task + index) own ≡ operate (operationAt row index) ∷ rest)
   operate-there index h =
-      let later : List Operation = drop (index + 1) (taskOf row .operations) in (
-        map operate later ++ ofEach ends (taskOf row .accesses),
+      let later : List Operation = drop (index + 1) operations in (
+        map operate later ++ ofEach ends accesses,
         past-waits index
-        ∙ shown-made operate (taskOf row .operations) index (operationAt row index) later (ofEach ends (taskOf row .accesses)) (operation-there index h),
+            ∙ shown-made operate operations index (operationAt row index) later (ofEach ends accesses) (operation-there index h),
       )
 
   ends-there : (index : ℕ) → index < getD row 1 0
-      → (rest : List Try)
-      × (drop (widthOf (taskOf row) + length (taskOf row .operations) + widthBefore (taskOf row .accesses) index) (ownSteps (taskOf row))
-      ≡ ends (accessAt row index) ++ rest)
+      → (rest : List Try) × (drop (widthOf task + length operations + widthBefore accesses index) own ≡ ends (accessAt row index) ++ rest)
   ends-there index h =
-      let within : index < length (taskOf row .accesses) = omega (arith, access-count) in
-      let rest : List Try = ofEach ends (drop (suc index) (taskOf row .accesses)) ++ [] in (
+      let within : index < length accesses = omega (arith, access-count) in
+      let rest : List Try = ofEach ends (drop (suc index) accesses) ++ [] in (
         rest,
-        past-operations (widthBefore (taskOf row .accesses) index)
-        ∙ ap (drop (widthBefore (taskOf row .accesses) index)) (sym (append-nil (ofEach ends (taskOf row .accesses))))
-        ∙ steps-drop ends as-many-ends (taskOf row .accesses) index (accessAt row index) [] within
-        ∙ ap (λ (access : Access). ends access ++ rest) (access-there index (accessAt row index) h),
+        past-operations (widthBefore accesses index)
+            ∙ ap (drop (widthBefore accesses index)) (sym (append-nil (ofEach ends accesses)))
+            ∙ steps-drop ends as-many-ends accesses index (accessAt row index) [] within
+            ∙ ap (λ (access : Access). ends access ++ rest) (access-there index (accessAt row index) h),
       )
 
   try-shown : (stage index : ℕ) → Stands row stage index
-      → (rest : List Try) × (drop (madeAt (taskOf row) stage index) (ownSteps (taskOf row)) ≡ tryAt row stage index ∷ rest)
+      → (rest : List Try) × (drop (madeAt task stage index) own ≡ tryAt row stage index ∷ rest)
   unfolding Stands madeAt tryAt
   try-shown zero index h =
       let cell = accessAt row index .cell in
@@ -205,7 +212,7 @@ module _ (row : List ℕ) where
       let cell = accessAt row index .cell in
       let there = waits-there index (h .0) in
       let both = both-of (waitWrite cell) (waitReads cell) (waitWrite cell) (writes (accessAt row index)) (there .0) (h .1) in
-      (there .0, shown-next (ownSteps (taskOf row)) (widthBefore (taskOf row .accesses) index) (waitWrite cell) (waitReads cell ∷ there .0) (there .1 ∙ both))
+      (there .0, shown-next own (widthBefore accesses index) (waitWrite cell) (waitReads cell ∷ there .0) (there .1 ∙ both))
   try-shown (suc (suc zero)) index h = operate-there index h
   try-shown (suc (suc (suc zero))) index h =
       let cell = accessAt row index .cell in
@@ -216,21 +223,20 @@ module _ (row : List ℕ) where
       let cell = accessAt row index .cell in
       let there = ends-there index (h .0) in
       let both = both-of (zeroReads cell) (postWrite cell) (endRead cell) (writes (accessAt row index)) (there .0) (h .1) in
-      let before : ℕ = widthOf (taskOf row) + length (taskOf row .operations) + widthBefore (taskOf row .accesses) index in
-      (there .0, shown-next (ownSteps (taskOf row)) before (zeroReads cell) (postWrite cell ∷ there .0) (there .1 ∙ both))
+      let before : ℕ = widthOf task + length operations + widthBefore accesses index in
+      (there .0, shown-next own before (zeroReads cell) (postWrite cell ∷ there .0) (there .1 ∙ both))
   try-shown (suc (suc (suc (suc (suc stage))))) index h = absurd h
 
   -- the own steps that are left begin with it
   pub try-there : (stage index : ℕ) → Stands row stage index
-      → drop (madeAt (taskOf row) stage index) (ownSteps (taskOf row))
-      ≡ tryAt row stage index ∷ drop (madeAt (taskOf row) stage index + 1) (ownSteps (taskOf row))
+      → drop (madeAt task stage index) own ≡ tryAt row stage index ∷ drop (madeAt task stage index + 1) own
   try-there stage index h =
-      shown (ownSteps (taskOf row)) (madeAt (taskOf row) stage index) (tryAt row stage index) (try-shown stage index h .0) (try-shown stage index h .1)
+      shown own (madeAt task stage index) (tryAt row stage index) (try-shown stage index h .0) (try-shown stage index h .1)
 
   -- fewer of them are made than there are
-  made-within : (stage index : ℕ) → Stands row stage index → madeAt (taskOf row) stage index < length (ownSteps (taskOf row))
+  made-within : (stage index : ℕ) → Stands row stage index → madeAt task stage index < length own
   made-within stage index h =
-      shown-within (ownSteps (taskOf row)) (madeAt (taskOf row) stage index) (tryAt row stage index) (try-shown stage index h .0) (try-shown stage index h .1)
+      shown-within own (madeAt task stage index) (tryAt row stage index) (try-shown stage index h .0) (try-shown stage index h .1)
 
 -- ---- the next place
 

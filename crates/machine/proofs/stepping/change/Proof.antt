@@ -45,8 +45,11 @@ returns-2 c =
     let start = c .before .before .before .before .before .before .before .before .before in
     let a = start .args in
     let done = c .before .before .operate in
-    let operation = ap (λ (i : ℕ). operated effect (operationAt (a .row .now) i) (a .cells .now)) (c .before .before .before .before .before .offset .ensures) in
-    made (a .row .now) (a .w) (a .number) (a .index) (lent start) (start .pre .1 .0) (a .stage) (done .last .1 .1 .0) (c .before .before .before .before .if2 .taken) (done .ensures ∙ operation)
+    let at = c .before .before .before .before .before .offset in
+    let operation = ap (λ (i : ℕ). operated effect (operationAt (a .row .now) i) (a .cells .now)) (at .ensures) in
+    made (a .row .now) (a .w) (a .number) (a .index) (lent start) (start .pre .1 .0) (a .stage) (done .last .1 .1 .0)
+    (c .before .before .before .before .if2 .taken)
+    (done .ensures ∙ operation)
 
 -- where the function starts, as seen past the operations and past the test of the last stage
 abbrev past-operations : tie.Else2 → tie.Start
@@ -122,16 +125,23 @@ returns-3 c =
     let start = c .before .before .before .before .before .before .before .before .before .before .before .before in
     let a = start .args in
     let read = c .before .before .before .before .before in
-    posted (a .row .now) (a .w) (a .number) (a .index) (lent start) (start .pre .1 .0) (read .index .result) (start .pre .0 .2) (within read) (cell-is read) (a .stage) (c .note .last .0)
+    posted (a .row .now) (a .w) (a .number) (a .index) (lent start) (start .pre .1 .0)
+    (read .index .result)
+    (start .pre .0 .2)
+    (within read)
+    (cell-is read)
+    (a .stage)
+    (c .note .last .0)
     (c .before .before .if3 .taken)
     (c .note .ensures)
 
 is-write-requires : tie.Need-is-write-requires
 is-write-requires c κs =
     let start = c .before .before .before .before .before .before .before .before .before .before in
-    rw (c .before .before .before .before .before .before .offset .ensures) (start .pre .0 .0 .size, omega (arith, access-index (c .before .before .before .before .before), start .pre .0 .0 .few-accesses))
+    rw (c .before .before .before .before .before .before .offset .ensures)
+    (start .pre .0 .0 .size, omega (arith, access-index (c .before .before .before .before .before), start .pre .0 .0 .few-accesses))
 
--- the stage is the third where it is none of the others
+-- the stage is 3 where it is none of the others
 third : (c : tie.Else3) → past-post c .args .stage ≡ 3
 third c =
     let start = past-post c in
@@ -156,7 +166,12 @@ returns-4 c =
     let start = c .before .before .before .before .before .before .before .before .before .before .before .before in
     let a = start .args in
     let read = c .before .before .before .before .before in
-    zeroed (a .row .now) (a .w) (a .number) (a .index) (lent start) (start .pre .1 .0) (read .index .result) (start .pre .0 .2) (within read) (cell-is read) (a .stage)
+    zeroed (a .row .now) (a .w) (a .number) (a .index) (lent start) (start .pre .1 .0)
+    (read .index .result)
+    (start .pre .0 .2)
+    (within read)
+    (cell-is read)
+    (a .stage)
     (third (c .before .before))
     (mode-is (c .before) ∙ c .if4 .taken)
 
@@ -183,7 +198,13 @@ returns-5 c =
     let start = c .before .before .before .before .before .before .before .before .before .before .before .before .before .before in
     let a = start .args in
     let read = c .before .before .before .before .before .before .before in
-    ended (a .row .now) (a .w) (a .number) (a .index) (lent start) (start .pre .1 .0) (read .index .result) (start .pre .0 .2) (within read) (cell-is read) (a .stage) (c .note2 .last .0)
+    ended (a .row .now) (a .w) (a .number) (a .index) (lent start) (start .pre .1 .0)
+    (read .index .result)
+    (start .pre .0 .2)
+    (within read)
+    (cell-is read)
+    (a .stage)
+    (c .note2 .last .0)
     (third (c .before .before .before .before))
     (mode-is (c .before .before .before) ∙ c .before .before .if4 .left)
     (c .note2 .ensures)

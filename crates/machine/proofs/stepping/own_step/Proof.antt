@@ -1,4 +1,5 @@
--- `machine::stepping::own_step` meets its contract: an own step that advances is changed and moved on as the rules say, and one that is held stores nothing.
+-- `machine::stepping::own_step` meets its contract: an own step that advances is changed and moved on as the rules say, and one
+-- that is held stores nothing.
 use mathlib.Core.Path.{_≡_, refl, ap}
 use mathlib.Core.Logic.{⊎-elim}
 use mathlib.Core.List.{[], _∷_}
@@ -41,7 +42,10 @@ access-at : (start : tie.Start) → (stageAt (lent start) (start .args .w) ≡ 2
     × (accessAt (start .args .row .now) (indexAt (lent start) (start .args .w)) .cell < 32)
 access-at start other =
     let a = start .args in
-    small-access (a .row .now) (length (a .cells .now)) (stageAt (lent start) (a .w)) (indexAt (lent start) (a .w)) (start .pre .0 .0) (start .pre .1 .0) other
+    small-access (a .row .now) (length (a .cells .now)) (stageAt (lent start) (a .w)) (indexAt (lent start) (a .w))
+    (start .pre .0 .0)
+    (start .pre .1 .0)
+    other
 
 mul-passed : tie.Need-mul-passed
 mul-passed c = search needs
@@ -132,7 +136,8 @@ returns-2 c =
     let start = c .before .before .before .before .before .before .before .before .before in
     let a = start .args in
     let held = c .before .held in
-    own-step-held (a .row .now) (a .w) (lent start) (outcomeOf (held .result)) (start .pre .1 .1 .0) (held .ensures) (held-back (held .result) (c .match .keys2))
+    own-step-held (a .row .now) (a .w) (lent start) (outcomeOf (held .result)) (start .pre .1 .1 .0) (held .ensures)
+    (held-back (held .result) (c .match .keys2))
 
 pub own-step-spec : {M : Type 1} → statement M
 own-step-spec =

@@ -1,4 +1,5 @@
--- `machine::stepping::step` meets its contract: the row that is read is the row of the worker's next task, and the three ways through the code are the rules' three cases.
+-- `machine::stepping::step` meets its contract: the row that is read is the row of the worker's next task, and the three ways
+-- through the code are the rules' three cases.
 use mathlib.Core.Path.{_≡_, sym, ap, subst, _∙_}
 use mathlib.Core.List.{List}
 use Prim.Native.Nat.{ℕ, _+_}
@@ -104,10 +105,13 @@ returns-2 c =
     let start = c .before .before .before .before .before .before .before .before .before .before .before in
     let a = start .args in
     let from = c .before .before .before .before .before .before in
-    let noted-in : List ℕ → List (List (List ℕ)) = λ row. notedAll (a .private .now) (a .w) (passed-by (from .before) + 1) (taskOf row .accesses) in
-    step-other (a .file .now) (a .tasks) (a .w) (lent start) (start .pre .0 .0) (start .pre .0 .1) (from .before .if1 .left) (c .register .last .1 .1 .1 .0)
+    let after = c .register .last .1 .1 .1 .0 in
+    let noted-in : List ℕ → List (List (List ℕ)) =
+    λ row. notedAll (a .private .now) (a .w) (passed-by (from .before) + 1) (taskOf row .accesses)
+    in
+    step-other (a .file .now) (a .tasks) (a .w) (lent start) (start .pre .0 .0) (start .pre .0 .1) (from .before .if1 .left) after
     (λ same. c .before .before .if2 .taken (owner-is (c .before .before .before) ∙ same))
-    (c .register .ensures ∙ ap noted-in (row-is from))
+    (subst (λ (row : List ℕ). after ≡ noted-in row) (row-is from) (c .register .ensures))
 
 own-step-requires : tie.Need-own-step-requires
 own-step-requires c κs =
