@@ -1,125 +1,213 @@
+-- `machine::stepping::change` meets its contract: at each stage the code stores what the rules change at the own step tried there.
+use mathlib.Core.Path.{_≡_, sym, ap, _∙_}
+use mathlib.Core.List.{[]}
+use Prim.Native.Nat.{ℕ, _<_}
+use native.Mathlib.Omega.{arith}
 use borrow.Author.Needs.{needs}
+use lib.ListN.{getD}
+use Rattle.layout.specs.Row.{accessAt, operationAt}
+use Rattle.steps.specs.Operations.{effect, operated}
+use Rattle.steps.specs.Step.{writes}
+use Rattle.machine.specs.Arrays.{Arrays, arrays}
+use Rattle.machine.proofs.Changes.{five-stages, at-operation, at-access, waited, made, posted, zeroed, ended}
 use Rattle.machine.proofs.stepping.change.Statement.{statement}
 use Rattle.machine.proofs.stepping.change.Tie as tie
-use Rattle.machine.proofs.stepping.change.Reads as reads
-use Rattle.machine.proofs.stepping.change.Lts as lts
-use Rattle.machine.proofs.counters.is_write.Reads as is-write-reads
-use Rattle.machine.proofs.counters.note.Reads as note-reads
-use Rattle.machine.proofs.effect.operate.Reads as operate-reads
-use Rattle.octets.proofs.index.Reads as index-reads
-use Rattle.octets.proofs.offset.Reads as offset-reads
 
--- src/stepping.rt:59:9
+-- what is lent where the function starts
+abbrev lent : tie.Start → Arrays
+lent start = arrays (start .args .cells .now) (start .args .shared .now) (start .args .private .now) []
+
 returns : tie.Need-returns
-returns c = ?
+returns c =
+    let start = c .before .before .before in
+    let a = start .args in
+    waited (a .row .now) (a .w) (a .number) (a .index) (lent start) (start .pre .1 .0) (a .stage) (c .if1 .taken)
 
--- src/stepping.rt:61:9
 offset-requires : tie.Need-offset-requires
 offset-requires c κs = search needs
 
--- src/stepping.rt:63:9
 operate-requires : tie.Need-operate-requires
-operate-requires c κs = ?
+operate-requires c κs =
+    let start = c .before .before .before .before .before .before in
+    let a = start .args in
+    let fits = start .pre .0 .0 in
+    let at = at-operation (a .row .now) (a .stage) (a .index) (c .before .if2 .taken) (start .pre .0 .1) in
+    rw (c .before .before .offset .ensures) (
+      (fits .size, omega (arith, at, fits .few-operations)),
+      (fits .writes-cells (a .index) at, fits .reads-cells (a .index) at),
+    )
 
--- src/stepping.rt:64:9
 same-length : tie.Need-same-length
 same-length c = search needs
 
--- src/stepping.rt:64:9
 returns-2 : tie.Need-returns-2
-returns-2 c = ?
+returns-2 c =
+    let start = c .before .before .before .before .before .before .before .before .before in
+    let a = start .args in
+    let done = c .before .before .operate in
+    let at = c .before .before .before .before .before .offset in
+    let operation = ap (λ (i : ℕ). operated effect (operationAt (a .row .now) i) (a .cells .now)) (at .ensures) in
+    made (a .row .now) (a .w) (a .number) (a .index) (lent start) (start .pre .1 .0) (a .stage) (done .last .1 .1 .0)
+    (c .before .before .before .before .if2 .taken)
+    (done .ensures ∙ operation)
 
--- src/stepping.rt:66:38
+-- where the function starts, as seen past the operations and past the test of the last stage
+abbrev past-operations : tie.Else2 → tie.Start
+past-operations c = c .before .before .before .before .before
+
+abbrev past-post : tie.Else3 → tie.Start
+past-post c = past-operations (c .before .before .before .before .before)
+
+-- there the index is an access's
+access-index : (c : tie.Else2) → past-operations c .args .index < getD (past-operations c .args .row .now) 1 0
+access-index c =
+    let start = past-operations c in
+    let a = start .args in
+    at-access (a .row .now) (a .stage) (a .index) (c .if2 .left) (start .pre .0 .1)
+
+-- the cell that is read is the access's, and it has a counter
+cell-is : (c : tie.After-index)
+    → c .index .result ≡ accessAt (past-operations (c .before .before) .args .row .now) (past-operations (c .before .before) .args .index) .cell
+cell-is c = rw (c .before .before .before .offset .ensures) at (c .index .ensures .0)
+
+within : (c : tie.After-index) → c .index .result < 32
+within c =
+    let start = past-operations (c .before .before) in
+    rw (cell-is c) (start .pre .0 .0 .access-cells (start .args .index) (access-index (c .before .before)))
+
 mul-index : tie.Need-mul-index
 mul-index c = search needs
 
--- src/stepping.rt:66:34
 add-index : tie.Need-add-index
 add-index c = search needs
 
--- src/stepping.rt:66:30
 shared-slice-read-index : tie.Need-shared-slice-read-index
-shared-slice-read-index c = ?
+shared-slice-read-index c =
+    let start = c .before .before .before .before .before .before in
+    omega (arith, access-index (c .before), start .pre .0 .0 .size, start .pre .0 .0 .few-accesses)
 
--- src/stepping.rt:66:9
 index-requires : tie.Need-index-requires
 index-requires c κs = search needs
 
--- src/stepping.rt:67:16
 mul-last : tie.Need-mul-last
 mul-last c = search needs
 
--- src/stepping.rt:67:16
 index-1-last : tie.Need-index-1-last
-index-1-last c = ?
+index-1-last c = within c
 
--- src/stepping.rt:67:16
 index-2-last : tie.Need-index-2-last
 index-2-last c = search needs
 
--- src/stepping.rt:68:17
 mul-reads : tie.Need-mul-reads
 mul-reads c = search needs
 
--- src/stepping.rt:68:17
 index-1-reads : tie.Need-index-1-reads
-index-1-reads c = ?
+index-1-reads c = within (c .before)
 
--- src/stepping.rt:68:17
 index-2-reads : tie.Need-index-2-reads
 index-2-reads c = search needs
 
--- src/stepping.rt:70:9
 mul-t31 : tie.Need-mul-t31
 mul-t31 c = search needs
 
--- src/stepping.rt:70:9
 element-set-from-shared : tie.Need-element-set-from-shared
-element-set-from-shared c = ?
+element-set-from-shared c = within (c .before .before .before)
 
--- src/stepping.rt:71:9
 note-requires : tie.Need-note-requires
-note-requires c κs = ?
+note-requires c κs =
+    let start = c .before .before .before .before .before .before .before .before .before .before .before in
+    let a = start .args in
+    let read = c .before .before .before .before in
+    (start .pre .0 .2, within read, omega (arith, start .pre .1 .1 .private-reads (a .w) (read .index .result)))
 
--- src/stepping.rt:72:9
 returns-3 : tie.Need-returns-3
-returns-3 c = ?
+returns-3 c =
+    let start = c .before .before .before .before .before .before .before .before .before .before .before .before in
+    let a = start .args in
+    let read = c .before .before .before .before .before in
+    posted (a .row .now) (a .w) (a .number) (a .index) (lent start) (start .pre .1 .0)
+    (read .index .result)
+    (start .pre .0 .2)
+    (within read)
+    (cell-is read)
+    (a .stage)
+    (c .note .last .0)
+    (c .before .before .if3 .taken)
+    (c .note .ensures)
 
--- src/stepping.rt:74:8
 is-write-requires : tie.Need-is-write-requires
-is-write-requires c κs = ?
+is-write-requires c κs =
+    let start = c .before .before .before .before .before .before .before .before .before .before in
+    rw (c .before .before .before .before .before .before .offset .ensures)
+    (start .pre .0 .0 .size, omega (arith, access-index (c .before .before .before .before .before), start .pre .0 .0 .few-accesses))
 
--- src/stepping.rt:75:9
+-- the stage is 3 where it is none of the others
+third : (c : tie.Else3) → past-post c .args .stage ≡ 3
+third c =
+    let start = past-post c in
+    let a = start .args in
+    omega (arith, five-stages (a .row .now) (a .stage) (a .index) (start .pre .0 .1), c .before .before .before .before .before .if2 .left)
+
+-- the mode that is read is the access's
+mode-is : (c : tie.After-is-write)
+    → writes (accessAt (past-post (c .before) .args .row .now) (past-post (c .before) .args .index)) ≡ c .is-write .result
+mode-is c =
+    ap (λ (i : ℕ). writes (accessAt (past-post (c .before) .args .row .now) i)) (sym (c .before .before .before .before .before .before .before .offset .ensures))
+    ∙ sym (c .is-write .ensures)
+
 mul-t38 : tie.Need-mul-t38
 mul-t38 c = search needs
 
--- src/stepping.rt:75:9
 element-set-from-shared-2 : tie.Need-element-set-from-shared-2
-element-set-from-shared-2 c = ?
+element-set-from-shared-2 c = within (c .before .before .before .before .before)
 
--- src/stepping.rt:76:9
 returns-4 : tie.Need-returns-4
-returns-4 c = ?
+returns-4 c =
+    let start = c .before .before .before .before .before .before .before .before .before .before .before .before in
+    let a = start .args in
+    let read = c .before .before .before .before .before in
+    zeroed (a .row .now) (a .w) (a .number) (a .index) (lent start) (start .pre .1 .0)
+    (read .index .result)
+    (start .pre .0 .2)
+    (within read)
+    (cell-is read)
+    (a .stage)
+    (third (c .before .before))
+    (mode-is (c .before) ∙ c .if4 .taken)
 
--- src/stepping.rt:78:27
 add-t25 : tie.Need-add-t25
-add-t25 c = ?
+add-t25 c =
+    let start = c .before .before .before .before .before .before .before .before .before .before .before .before in
+    omega (arith, start .pre .1 .1 .shared-reads (c .before .before .before .before .before .index .result))
 
--- src/stepping.rt:78:5
 mul-t17 : tie.Need-mul-t17
 mul-t17 c = search needs
 
--- src/stepping.rt:78:5
 element-set-from-shared-3 : tie.Need-element-set-from-shared-3
-element-set-from-shared-3 c = ?
+element-set-from-shared-3 c = within (c .before .before .before .before .before)
 
--- src/stepping.rt:79:5
 note-requires-2 : tie.Need-note-requires-2
-note-requires-2 c κs = ?
+note-requires-2 c κs =
+    let start = c .before .before .before .before .before .before .before .before .before .before .before .before .before in
+    let a = start .args in
+    let read = c .before .before .before .before .before .before in
+    (start .pre .0 .2, within read, omega (arith, start .pre .1 .1 .private-reads (a .w) (read .index .result)))
 
--- src/stepping.rt:44:1
 returns-5 : tie.Need-returns-5
-returns-5 c = ?
+returns-5 c =
+    let start = c .before .before .before .before .before .before .before .before .before .before .before .before .before .before in
+    let a = start .args in
+    let read = c .before .before .before .before .before .before .before in
+    ended (a .row .now) (a .w) (a .number) (a .index) (lent start) (start .pre .1 .0)
+    (read .index .result)
+    (start .pre .0 .2)
+    (within read)
+    (cell-is read)
+    (a .stage)
+    (c .note2 .last .0)
+    (third (c .before .before .before .before))
+    (mode-is (c .before .before .before) ∙ c .before .before .if4 .left)
+    (c .note2 .ensures)
 
 pub change-spec : {M : Type 1} → statement M
 change-spec =

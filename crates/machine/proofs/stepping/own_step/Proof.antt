@@ -1,87 +1,143 @@
+-- `machine::stepping::own_step` meets its contract: an own step that advances is changed and moved on as the rules say, and one
+-- that is held stores nothing.
+use mathlib.Core.Path.{_≡_, refl, ap}
+use mathlib.Core.Logic.{⊎-elim}
+use mathlib.Core.List.{[], _∷_}
+use Prim.Native.Nat.{_<_}
+use native.Mathlib.Omega.{arith}
 use borrow.Author.Needs.{needs}
+use lib.ListN.{length}
+use types.Run.{OneOf}
+use denote.Enum.Declared.{tagOf}
+use Rattle.layout.specs.Row.{accessAt}
+use Rattle.steps.specs.Machine.{Machine}
+use Rattle.steps.specs.Step.{stepped, attempted}
+use Rattle.machine.specs.declared.Outcome.{Outcome}
+use Rattle.machine.specs.declared.Outcome.the-variants.{Advanced, PastLast, WriteDiffers, ReadsDiffer}
+use Rattle.machine.specs.Arrays.{Arrays, arrays, stageAt, indexAt}
+use Rattle.machine.specs.Outcomes.{outcomeOf}
+use Rattle.machine.proofs.Outcome as declared
+use Rattle.machine.proofs.Changes.{five-stages, small-access, small-index}
+use Rattle.machine.proofs.Steps.{own-step-made, own-step-held}
 use Rattle.machine.proofs.stepping.own_step.Statement.{statement}
 use Rattle.machine.proofs.stepping.own_step.Tie as tie
-use Rattle.machine.proofs.stepping.own_step.Reads as reads
-use Rattle.machine.proofs.stepping.own_step.Lts as lts
-use Rattle.machine.proofs.place.next.Reads as next-reads
-use Rattle.machine.proofs.stepping.change.Reads as change-reads
-use Rattle.machine.proofs.stepping.held.Reads as held-reads
 
--- src/stepping.rt:96:18
+-- a step with any other outcome than that it advances leaves the machine
+held-back : (why : Outcome) → OneOf (1 ∷ 2 ∷ 3 ∷ []) (tagOf declared.the-type why) → (m after : Machine)
+    → stepped (outcomeOf why) m ≡ attempted (outcomeOf why) m after
+unfolding attempted
+held-back Advanced keys m after =
+    absurd (⊎-elim (λ one. omega arith) (⊎-elim (λ two. omega arith) (λ three. omega arith)) keys)
+held-back PastLast keys m after = refl
+held-back (WriteDiffers cell) keys m after = refl
+held-back (ReadsDiffer cell) keys m after = refl
+
+-- what is lent where the function starts
+abbrev lent : tie.Start → Arrays
+lent start = arrays (start .args .cells .now) (start .args .shared .now) (start .args .private .now) (start .args .places .now)
+
+-- away from the operations the worker stands at an access
+access-at : (start : tie.Start) → (stageAt (lent start) (start .args .w) ≡ 2 → ⊥)
+    → (indexAt (lent start) (start .args .w) < 4)
+    × (accessAt (start .args .row .now) (indexAt (lent start) (start .args .w)) .cell < 32)
+access-at start other =
+    let a = start .args in
+    small-access (a .row .now) (length (a .cells .now)) (stageAt (lent start) (a .w)) (indexAt (lent start) (a .w))
+    (start .pre .0 .0)
+    (start .pre .1 .0)
+    other
+
 mul-passed : tie.Need-mul-passed
 mul-passed c = search needs
 
--- src/stepping.rt:96:18
 index-1-passed : tie.Need-index-1-passed
 index-1-passed c = search needs
 
--- src/stepping.rt:96:18
 index-2-passed : tie.Need-index-2-passed
 index-2-passed c = search needs
 
--- src/stepping.rt:97:17
 mul-stage : tie.Need-mul-stage
 mul-stage c = search needs
 
--- src/stepping.rt:97:17
 index-1-stage : tie.Need-index-1-stage
 index-1-stage c = search needs
 
--- src/stepping.rt:97:17
 index-2-stage : tie.Need-index-2-stage
 index-2-stage c = search needs
 
--- src/stepping.rt:98:17
 mul-index : tie.Need-mul-index
 mul-index c = search needs
 
--- src/stepping.rt:98:17
 index-1-index : tie.Need-index-1-index
 index-1-index c = search needs
 
--- src/stepping.rt:98:17
 index-2-index : tie.Need-index-2-index
 index-2-index c = search needs
 
--- src/stepping.rt:99:9
 held-requires : tie.Need-held-requires
-held-requires c κs = ?
+held-requires c κs =
+    let start = c .before .before .before .before .before .before .before in
+    let a = start .args in
+    ((start .pre .0 .0 .size, start .pre .0 .1), λ wait. access-at start (λ two. omega arith))
 
--- src/stepping.rt:101:24
 enum-told : tie.Need-enum-told
 enum-told c = search needs
 
--- src/stepping.rt:101:24
 add-change : tie.Need-add-change
 add-change c = search needs
 
--- src/stepping.rt:101:9
 change-requires : tie.Need-change-requires
 change-requires c κs = search needs
 
--- src/stepping.rt:102:21
 next-requires : tie.Need-next-requires
-next-requires c κs = ?
+next-requires c κs =
+    let start = c .before .before .before .before .before .before .before .before .before .before .before .before .before .before .before .before in
+    let a = start .args in
+    let kept = lent start in
+    let stands = start .pre .1 .0 in
+    let fits = start .pre .0 .0 in (
+      (
+        fits .size,
+        start .pre .0 .3,
+        five-stages (a .row .now) (stageAt kept (a .w)) (indexAt kept (a .w)) stands,
+        small-index (a .row .now) (length (a .cells .now)) (stageAt kept (a .w)) (indexAt kept (a .w)) fits stands,
+      ),
+      λ other. access-at start other .0,
+    )
 
--- src/stepping.rt:102:9
 mul-t34 : tie.Need-mul-t34
 mul-t34 c = search needs
 
--- src/stepping.rt:102:9
 element-set-from-places : tie.Need-element-set-from-places
 element-set-from-places c = search needs
 
--- src/stepping.rt:83:1
 same-length : tie.Need-same-length
 same-length c = search needs
 
--- src/stepping.rt:83:1
 returns : tie.Need-returns
-returns c = ?
+returns c =
+    let start = c .before .before .before .before .before .before .before .before .before .before .before .before .before .before .before .before .before in
+    let a = start .args in
+    let held = c .before .before .before .before .before .before .before .before .before .held in
+    let changed = c .before .before .before .change in
+    own-step-made (a .row .now) (a .w) (lent start) (outcomeOf (held .result))
+    (changed .last .1 .1 .1 .1 .1 .0)
+    (changed .last .1 .1 .1 .1 .1 .1 .0)
+    (changed .last .1 .1 .1 .1 .1 .1 .1 .0)
+    (c .next .result)
+    (ap outcomeOf (c .before .before .before .before .before .before .before .enum-told .given .1))
+    (held .ensures)
+    (changed .ensures)
+    (c .next .ensures)
+    (omega (arith, start .pre .0 .2))
 
--- src/stepping.rt:83:1
 returns-2 : tie.Need-returns-2
-returns-2 c = ?
+returns-2 c =
+    let start = c .before .before .before .before .before .before .before .before .before in
+    let a = start .args in
+    let held = c .before .held in
+    own-step-held (a .row .now) (a .w) (lent start) (outcomeOf (held .result)) (start .pre .1 .1 .0) (held .ensures)
+    (held-back (held .result) (c .match .keys2))
 
 pub own-step-spec : {M : Type 1} → statement M
 own-step-spec =

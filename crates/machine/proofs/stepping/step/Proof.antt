@@ -1,0 +1,170 @@
+-- `machine::stepping::step` meets its contract: the row that is read is the row of the worker's next task, and the three ways
+-- through the code are the rules' three cases.
+use mathlib.Core.Path.{_≡_, sym, ap, subst, _∙_}
+use mathlib.Core.List.{List}
+use Prim.Native.Nat.{ℕ, _+_}
+use native.Mathlib.Omega.{arith}
+use borrow.Author.Needs.{needs}
+use lib.ListN.{length, getD}
+use Rattle.layout.specs.Bytes.{part}
+use Rattle.layout.specs.Row.{taskOf}
+use Rattle.layout.specs.File.{rowAt}
+use Rattle.machine.specs.Arrays.{Arrays, arrays, passedAt, notedAll, RowFits, OwnStep}
+use Rattle.machine.specs.Outcomes.{outcomeOf}
+use Rattle.machine.proofs.Steps.{step-past, step-other, step-own}
+use Rattle.machine.proofs.stepping.step.Statement.{statement}
+use Rattle.machine.proofs.stepping.step.Tie as tie
+
+-- what is lent where the function starts
+abbrev lent : tie.Start → Arrays
+lent start = arrays (start .args .cells .now) (start .args .shared .now) (start .args .private .now) (start .args .places .now)
+
+mul-passed : tie.Need-mul-passed
+mul-passed c = search needs
+
+index-1-passed : tie.Need-index-1-passed
+index-1-passed c = search needs
+
+index-2-passed : tie.Need-index-2-passed
+index-2-passed c = search needs
+
+returns : tie.Need-returns
+returns c =
+    let start = c .before .before .before .before in
+    let a = start .args in
+    step-past (a .file .now) (a .tasks) (a .w) (lent start) (start .pre .0 .0) (start .pre .0 .1) (c .if1 .taken)
+
+add-start : tie.Need-add-start
+add-start c = search needs
+
+start-requires : tie.Need-start-requires
+start-requires c κs = search needs
+
+-- the tasks that the worker has gone past, and the row of the next
+abbrev passed-by : tie.Else1 → ℕ
+passed-by c = passedAt (lent (c .before .before .before .before)) (c .before .before .before .before .args .w)
+
+abbrev row-of : tie.Else1 → List ℕ
+row-of c = rowAt (c .before .before .before .before .args .file .now) (passed-by c + 1)
+
+row-fits : (c : tie.Else1) → RowFits (row-of c) (length (c .before .before .before .before .args .cells .now))
+row-fits c =
+    let start = c .before .before .before .before in
+    start .pre .0 .0 .ready .rows (passed-by c + 1) (omega arith) (omega (arith, c .if1 .left))
+
+-- the part that is read is that row
+row-is : (c : tie.After-start)
+    → part (c .start .result) (c .start .result + 48) (c .before .before .before .before .before .args .file .now) ≡ row-of (c .before)
+row-is c = ap (λ (from : ℕ). part from (from + 48) (c .before .before .before .before .before .args .file .now)) (c .start .ensures)
+
+owner-is : (c : tie.After-index) → c .index .result ≡ getD (row-of (c .before .before .before .before)) 0 0
+owner-is c = c .index .ensures .0 ∙ ap (λ (row : List ℕ). getD row 0 0) (row-is (c .before .before .before))
+
+add-row : tie.Need-add-row
+add-row c = search needs
+
+sub-row : tie.Need-sub-row
+sub-row c = search needs
+
+part-row-start : tie.Need-part-row-start
+part-row-start c = search needs
+
+part-row-end : tie.Need-part-row-end
+part-row-end c = search needs
+
+shared-slice-read-index : tie.Need-shared-slice-read-index
+shared-slice-read-index c = search needs
+
+index-requires : tie.Need-index-requires
+index-requires c κs = search needs
+
+add-register : tie.Need-add-register
+add-register c = search needs
+
+register-requires : tie.Need-register-requires
+register-requires c κs =
+    let start = c .before .before .before .before .before .before .before .before .before .before in
+    let a = start .args in
+    let fits = row-fits (c .before .before .before .before .before .before) in
+    rw (c .before .before .before .before .before .start .ensures) (
+      (fits .size, fits .few-accesses, start .pre .0 .1),
+      (fits .access-cells, start .pre .1 .private-reads (a .w)),
+    )
+
+add-t24 : tie.Need-add-t24
+add-t24 c = search needs
+
+mul-t27 : tie.Need-mul-t27
+mul-t27 c = search needs
+
+element-set-from-places : tie.Need-element-set-from-places
+element-set-from-places c = search needs
+
+returns-2 : tie.Need-returns-2
+returns-2 c =
+    let start = c .before .before .before .before .before .before .before .before .before .before .before in
+    let a = start .args in
+    let from = c .before .before .before .before .before .before in
+    let after = c .register .last .1 .1 .1 .0 in
+    let noted-in : List ℕ → List (List (List ℕ)) =
+    λ row. notedAll (a .private .now) (a .w) (passed-by (from .before) + 1) (taskOf row .accesses)
+    in
+    step-other (a .file .now) (a .tasks) (a .w) (lent start) (start .pre .0 .0) (start .pre .0 .1) (from .before .if1 .left) after
+    (λ same. c .before .before .if2 .taken (owner-is (c .before .before .before) ∙ same))
+    (subst (λ (row : List ℕ). after ≡ noted-in row) (row-is from) (c .register .ensures))
+
+own-step-requires : tie.Need-own-step-requires
+own-step-requires c κs =
+    let start = c .before .before .before .before .before .before .before .before .before .before .before .before .before in
+    let a = start .args in
+    let from = c .before .before .before .before .before .before .before .before in
+    let sound = start .pre .0 .0 in
+    let reads = start .pre .1 in
+    rw (from .start .ensures) (
+      (row-fits (from .before), start .pre .0 .1, sound .places-size, omega (arith, sound .ready .few-tasks, from .before .if1 .left)),
+      (
+        sound .standing .stands (a .w) (start .pre .0 .1) (from .before .if1 .left),
+        (sound .shape, record { shared-reads = reads .shared-reads; private-reads = reads .private-reads }),
+      ),
+    )
+
+same-length : tie.Need-same-length
+same-length c = search needs
+
+returns-3 : tie.Need-returns-3
+returns-3 c =
+    let start = c .before .before .before .before .before .before .before .before .before .before .before .before .before .before .before .before in
+    let a = start .args in
+    let from = c .before .before .before .before .before .before .before .before .before .before .before in
+    let done = c .before .before .own-step in
+    let why = outcomeOf (done .result) in
+    let after = arrays (done .last .1 .1 .0) (done .last .1 .1 .1 .0) (done .last .1 .1 .1 .1 .0) (done .last .1 .1 .1 .1 .1 .0) in
+    step-own (a .file .now) (a .tasks) (a .w) (lent start) (start .pre .0 .0) (start .pre .0 .1) (from .before .if1 .left) why after
+    (sym (owner-is (c .before .before .before .before .before .before .before .before)) ∙ c .before .before .before .before .before .before .before .if2 .left)
+    (subst (λ (row : List ℕ). OwnStep row (a .w) (lent start) why after) (row-is from) (done .ensures))
+
+pub step-spec : {M : Type 1} → statement M
+step-spec =
+    tie.close
+    (tie.spec
+    mul-passed
+    index-1-passed
+    index-2-passed
+    returns
+    add-start
+    start-requires
+    add-row
+    sub-row
+    part-row-start
+    part-row-end
+    shared-slice-read-index
+    index-requires
+    add-register
+    register-requires
+    add-t24
+    mul-t27
+    element-set-from-places
+    returns-2
+    own-step-requires
+    same-length
+    returns-3)
