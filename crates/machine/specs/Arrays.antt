@@ -149,6 +149,7 @@ pub record Shape (shared : List (List ℕ)) (private : List (List (List ℕ))) :
 -- a row whose numbers are small enough to be used as indices
 pub record RowFits (row : List ℕ) (cells : ℕ) : Type 0 where
   pub size : length row ≡ 48
+  pub owner-fits : getD row 0 0 < 8
   pub some-access : 1 ≤ getD row 1 0
   pub few-accesses : getD row 1 0 ≤ 4
   pub few-operations : getD row 2 0 ≤ 6

@@ -47,12 +47,14 @@ least-of f (suc n) = go (least-of f n)
             record {
               at = before .at;
               inside = omega (arith, before .inside);
-              least = λ v h. order v (suc n) (before .least v) (λ q. omega (arith, leb-true (f (before .at)) (f (suc n)) e, ap f q)) (λ l. absurd (omega arith)) }
+              least = λ v h. order v (suc n) (before .least v) (λ q. omega (arith, leb-true (f (before .at)) (f (suc n)) e, ap f q)) (λ l. absurd (omega arith));
+            }
         pick false e =
             record {
               at = suc n;
               inside = omega arith;
-              least = λ v h. order v (suc n) (λ l. omega (arith, before .least v l, leb-false (f (before .at)) (f (suc n)) e)) (λ q. omega (arith, ap f q)) (λ l. absurd (omega arith)) }
+              least = λ v h. order v (suc n) (λ l. omega (arith, before .least v l, leb-false (f (before .at)) (f (suc n)) e)) (λ q. omega (arith, ap f q)) (λ l. absurd (omega arith));
+            }
 
 least-below : (f : ℕ → ℕ) (n v : ℕ) → v < n → Least f n
 least-below f zero v h = absurd (not-suc-le-zero h)

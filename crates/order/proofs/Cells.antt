@@ -91,7 +91,8 @@ module _ (s : Setting) (workers : ℕ) (start : List ℕ) (keep : AllKeep worker
         listed = trying .at-task;
         unfinished = omega (arith, at .0, at .1, there);
         earlier = λ i c l conflict.
-          earlier-complete s workers (length start) keep m k i (m .places w .passed) c l (trying .at-task) conflict (omega (arith, at .0, there)) }
+            earlier-complete s workers (length start) keep m k i (m .places w .passed) c l (trying .at-task) conflict (omega (arith, at .0, there));
+      }
 
   -- the operation made is the task's next
   pub next-made : (m : Machine) (w : ℕ) {o : Operation} → Trying s m w (operate o)

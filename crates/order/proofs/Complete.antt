@@ -69,9 +69,9 @@ module _ (s : Setting) (workers cells : ℕ) (keep : AllKeep workers cells (s .t
   earlier-ended i j c l h conflict passed =
       let between = kinds-conflict (taskAt (s .tasks) i) (taskAt (s .tasks) j) c conflict in
       let has = acquired (kinds s c i) (kinds s c j) (seen s m c .stage j) between
-          (waits-made (taskAt (s .tasks) j) c (keep .each-task j h .named-once) (ownMade (s .tasks) (m .places) j) passed) in
+      (waits-made (taskAt (s .tasks) j) c (keep .each-task j h .named-once) (ownMade (s .tasks) (m .places) j) passed) in
       let ended : seen s m c .stage i ≡ full (kinds s c i) =
-          inv-order (kinds s c) (s .number) (length (s .tasks)) (seen s m c) (k .cells c) i j l has between in
+      inv-order (kinds s c) (s .number) (length (s .tasks)) (seen s m c) (k .cells c) i j l has between in
       ends-after (taskAt (s .tasks) i) c (keep .each-task i (omega arith) .named-once) (ownMade (s .tasks) (m .places) i)
       (omega (arith, ended, some-end (kinds s c i) (kinds s c j) between))
 

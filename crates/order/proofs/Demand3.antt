@@ -47,10 +47,12 @@ module _ (s : Setting) (workers : ℕ) (start schedule : List ℕ) (asked : Aske
       along-machine s workers Holds start
       (record {
         kept = kept-fresh s workers (length start) (asked .keep) (asked .apart) start;
-        cells = cells-fresh s workers start (asked .keep) (asked .reads) })
+        cells = cells-fresh s workers start (asked .keep) (asked .reads);
+      })
       (λ m w h k. record {
         kept = kept-step s workers (length start) (asked .keep) (asked .apart) m w (k .kept);
-        cells = cells-step s workers start (asked .keep) (asked .reads) m w (k .kept) (k .cells) })
+        cells = cells-step s workers start (asked .keep) (asked .reads) m w (k .kept) (k .cells);
+      })
       schedule
       (asked .names)
 
@@ -65,12 +67,14 @@ module _ (s : Setting) (workers : ℕ) (start schedule : List ℕ) (asked : Aske
       (λ entries before w h t.
       record {
         kept = rw counted-machine (kept-step s workers (length start) (asked .keep) (asked .apart) (before .machine) w (t .kept));
-        told = rw counted-machine (told-step s workers (length start) (asked .keep) (asked .modes) entries (before .machine) w (t .kept) (t .told)) })
+        told = rw counted-machine (told-step s workers (length start) (asked .keep) (asked .modes) entries (before .machine) w (t .kept) (t .told));
+      })
       []
       (freshRun s start)
       (record {
         kept = kept-fresh s workers (length start) (asked .keep) (asked .apart) start;
-        told = told-fresh s workers (length start) (asked .keep) (asked .modes) start })
+        told = told-fresh s workers (length start) (asked .keep) (asked .modes) start;
+      })
       schedule
       (asked .names)
 
@@ -82,7 +86,7 @@ module _ (s : Setting) (workers : ℕ) (start schedule : List ℕ) (asked : Aske
       let m : Machine = run s start schedule .machine in
       let task = asked .keep .each-task j h in
       let past : length (s .tasks) ≤ m .places (taskAt (s .tasks) j .owner) .passed =
-          leb-true _ _ (all-keeps (λ w. leb (length (s .tasks)) (m .places w .passed)) workers (λ w. w) (taskAt (s .tasks) j .owner) (task .owned) over) in
+      leb-true _ _ (all-keeps (λ w. leb (length (s .tasks)) (m .places w .passed)) workers (λ w. w) (taskAt (s .tasks) j .owner) (task .owned) over) in
       let made = made-past (length (ownSteps (taskAt (s .tasks) j))) j (m .places (taskAt (s .tasks) j .owner)) (omega arith) in
       omega (arith, made, own-length (taskAt (s .tasks) j))
 
@@ -94,8 +98,10 @@ module _ (s : Setting) (workers : ℕ) (start schedule : List ℕ) (asked : Aske
         progress = progress s workers (length start) (asked .keep) (run s start schedule .machine) (holds .kept);
         total = record {
           at-most = total-bound s workers owned some-access start schedule (asked .names);
-          exactly = finished-exactly s workers owned some-access start schedule (asked .names) };
-        values = λ over. all-complete (s .does) (s .tasks) start (asked .keep) (holds .cells) (all-made over) }
+          exactly = finished-exactly s workers owned some-access start schedule (asked .names);
+        };
+        values = λ over. all-complete (s .does) (s .tasks) start (asked .keep) (holds .cells) (all-made over);
+      }
     where
       owned : (i : ℕ) → i < length (s .tasks) → taskAt (s .tasks) i .owner < workers
       owned i h = asked .keep .each-task i h .owned

@@ -70,12 +70,14 @@ module _ (s : Setting) (workers cells : ℕ) (keep : AllKeep workers cells (s .t
       record {
         standing = standing-fresh s some-access start;
         cells = λ c. subst (Inv (kinds s c) (s .number) (length (s .tasks)))
-          (λ i. record {
-            stage = λ j. (sym (ap (stage (taskAt (s .tasks) j) c) (made-none (length (ownSteps (taskAt (s .tasks) j))) j) ∙ stage-start (taskAt (s .tasks) j) c)) i;
-            lastWrite = s .number 0;
-            reads = 0 })
-          (inv-start (kinds s c) (s .number) (length (s .tasks)));
-        rows = λ w. row-arrives s w 0 _ (λ c. refl) }
+            (λ i. record {
+              stage = λ j. (sym (ap (stage (taskAt (s .tasks) j) c) (made-none (length (ownSteps (taskAt (s .tasks) j))) j) ∙ stage-start (taskAt (s .tasks) j) c)) i;
+              lastWrite = s .number 0;
+              reads = 0;
+            })
+            (inv-start (kinds s c) (s .number) (length (s .tasks)));
+        rows = λ w. row-arrives s w 0 _ (λ c. refl);
+      }
 
   -- ---- after a step
 
@@ -88,17 +90,20 @@ module _ (s : Setting) (workers cells : ℕ) (keep : AllKeep workers cells (s .t
   goes m w k (other h not-own none) =
       record {
         cells-go = λ c. subst (Inv (kinds s c) (s .number) (length (s .tasks)))
-          (λ i. record {
-            stage = λ j. ap (stage (taskAt (s .tasks) j) c) (sym (own-made-past (s .tasks) (m .places) w not-own none j)) i;
-            lastWrite = m .shared c .lastWrite;
-            reads = m .shared c .reads })
-          (k .cells c);
-        rows-go = rows-put s m w _ _ (row-registers s w (m .places w) (m .private w) not-own (keep .each-task _ h .named-once) (k .rows w)) (k .rows) }
+            (λ i. record {
+              stage = λ j. ap (stage (taskAt (s .tasks) j) c) (sym (own-made-past (s .tasks) (m .places) w not-own none j)) i;
+              lastWrite = m .shared c .lastWrite;
+              reads = m .shared c .reads;
+            })
+            (k .cells c);
+        rows-go = rows-put s m w _ _ (row-registers s w (m .places w) (m .private w) not-own (keep .each-task _ h .named-once) (k .rows w)) (k .rows);
+      }
   goes m w k (held trying e waits) = record { cells-go = k .cells; rows-go = k .rows }
   goes m w k (StepView.made {try} trying e passes) =
       record {
         cells-go = λ c. cell c (on c try) refl;
-        rows-go = λ v. row v }
+        rows-go = λ v. row v;
+      }
     where
       once : namedOnce (facing s m w .accesses) ≡ true
       once = keep .each-task _ (trying .at-task) .named-once

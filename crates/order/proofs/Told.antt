@@ -51,14 +51,15 @@ pub record Told (s : Setting) (entries : List Made) (m : Machine) : Type 0 where
 
 module _ (s : Setting) (workers cells : ℕ) (keep : AllKeep workers cells (s .tasks))
     (modes : (i : ℕ) → i < length (s .tasks) → modesSound (taskAt (s .tasks) i) ≡ true) where
-
   pub told-fresh : (start : List ℕ) → Told s [] (fresh (s .number 0) start)
   told-fresh start =
       record {
         there = record {
-          stands = λ j i h l. absurd (omega (arith, made-none (length (ownSteps (taskAt (s .tasks) j))) j)) };
+          stands = λ j i h l. absurd (omega (arith, made-none (length (ownSteps (taskAt (s .tasks) j))) j));
+        };
         declared = λ k h. absurd (not-suc-le-zero h);
-        in-order = λ earlier later cell a b c d k h. absurd (not-suc-le-zero h) }
+        in-order = λ earlier later cell a b c d k h. absurd (not-suc-le-zero h);
+      }
 
   -- a step that makes no operation
   told-same : (entries : List Made) (m after : Machine) → Told s entries m
@@ -69,7 +70,8 @@ module _ (s : Setting) (workers cells : ℕ) (keep : AllKeep workers cells (s .t
       (record {
         there = record { stands = λ j i h l. t .there .stands j i h (omega (arith, same j)) };
         declared = t .declared;
-        in-order = t .in-order })
+        in-order = t .in-order;
+      })
 
   -- a step that makes one
   told-more : (entries : List Made) (m : Machine) (w : ℕ) → Kept s m → Told s entries m → {o : Operation} → Trying s m w (operate o)
@@ -121,9 +123,11 @@ module _ (s : Setting) (workers cells : ℕ) (keep : AllKeep workers cells (s .t
       stands-now j i h l = go (eqb j p) refl (rw (made-operation s m w trying j) at l)
         where
           last : j ≡ p → i ≡ before j → (n : ℕ) × (n < length now) × (entry now n ≡ made (j + 1) i)
-          last q r =
-              (length entries, omega (arith, one-longer entries e),
-              entry-last entries e ∙ ap₂ made (ap (λ (n : ℕ). n + 1) (sym q)) (sym next ∙ ap before (sym q) ∙ sym r))
+          last q r = (
+            length entries,
+            omega (arith, one-longer entries e),
+            entry-last entries e ∙ ap₂ made (ap (λ (n : ℕ). n + 1) (sym q)) (sym next ∙ ap before (sym q) ∙ sym r),
+          )
 
           go : (b : Bool) → eqb j p ≡ b → i < cond b (suc (before p)) (before j) → (n : ℕ) × (n < length now) × (entry now n ≡ made (j + 1) i)
           go true q r =
@@ -136,7 +140,8 @@ module _ (s : Setting) (workers cells : ℕ) (keep : AllKeep workers cells (s .t
           record {
             is-task = (omega arith, omega (arith, trying .at-task));
             is-operation = rw back (omega (arith, at .0, at .1));
-            within-modes = rw back (keeps-at task (modes p (trying .at-task)) index (omega (arith, at .0, at .1))) }
+            within-modes = rw back (keeps-at task (modes p (trying .at-task)) index (omega (arith, at .0, at .1)));
+          }
 
       declared-now : OnlyDeclared s now
       declared-now = entry-of (λ i. Declared s) (t .declared) new-declared
@@ -152,8 +157,8 @@ module _ (s : Setting) (workers cells : ℕ) (keep : AllKeep workers cells (s .t
           let up : earlier - 1 + 1 ≡ earlier = omega arith in
           let there-p : later - 1 ≡ p = omega (arith, q) in
           let complete = earlier-complete s workers cells keep m k (earlier - 1) p cell (omega (arith, q)) (trying .at-task)
-              (subst (λ (n : ℕ). Conflict (numbered s earlier) (taskAt (s .tasks) n) cell) there-p conflict)
-              (omega (arith, at .0, own-there s m w (operate o) trying)) in
+          (subst (λ (n : ℕ). Conflict (numbered s earlier) (taskAt (s .tasks) n) cell) there-p conflict)
+          (omega (arith, at .0, own-there s m w (operate o) trying)) in
           let old = t .there .stands (earlier - 1) i (omega (arith, q, trying .at-task)) (omega (arith, complete)) in
           (old .0, old .1, entry-before entries e (old .0) (old .1) ∙ old .2 ∙ ap (λ (n : ℕ). made n i) up))
 

@@ -1,13 +1,21 @@
 -- What the plain run and the stepped run promise: the answer, and every lent cell, refusals included.
 use mathlib.Core.Path.{_≡_}
+use mathlib.Core.Bool.{cond}
 use mathlib.Core.List.{List}
 use Prim.Native.Nat.{ℕ, _≤_}
 use Rattle.layout.specs.Refusal as Rules
+use Rattle.layout.specs.Flow.{Task}
 use Rattle.layout.specs.File.{flowOf}
-use Rattle.steps.specs.Run.{total}
+use Rattle.steps.specs.Operations.{effect}
+use Rattle.steps.specs.Step.{Setting}
+use Rattle.steps.specs.Run.{run, doneTasks, finished, total}
 use Rattle.steps.specs.Answers.{Told, plainAnswer, plainCells, runTold, runCells}
 use Rattle.run.specs.declared.PlainAnswer.{PlainAnswer}
 use Rattle.run.specs.declared.RunAnswer.{RunAnswer}
+
+-- tasks under their numbers from 1, and 01's operations
+abbrev pub settingFor : List Task → Setting
+settingFor tasks = record { tasks = tasks; number = λ t. t; does = effect }
 
 abbrev pub plainIs : Rules.Answer → PlainAnswer
 plainIs met = record { number = met .number; place = met .place }
@@ -34,3 +42,16 @@ pub record RunPromise (file cells schedule : List ℕ) (r : RunAnswer) (after : 
   pub answer : r ≡ runIs (runTold file cells schedule)
   pub cells-after : after ≡ runCells file cells schedule
   pub bounded : r .advanced ≤ total (flowOf file)
+
+-- what the steps of an accepted schedule give, from a fresh start
+pub record Walked (tasks : List Task) (workers : ℕ) (cells schedule : List ℕ) (r : RunAnswer) (after : List ℕ) : Type 0 where
+  pub answer : r
+      ≡ record {
+        number = 0;
+        place = 0;
+        advanced = run (settingFor tasks) cells schedule .advanced;
+        held = run (settingFor tasks) cells schedule .held;
+        done = doneTasks tasks (run (settingFor tasks) cells schedule .machine);
+        finished = cond (finished workers tasks (run (settingFor tasks) cells schedule .machine)) 1 0;
+      }
+  pub cells-after : after ≡ run (settingFor tasks) cells schedule .machine .cells

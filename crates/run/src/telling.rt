@@ -4,8 +4,10 @@ ghost use mathlib.Core.Path.{_≡_};
 ghost use mathlib.Core.Bool.{cond};
 ghost use mathlib.Core.List.{[]};
 ghost use Prim.Native.Nat.{ℕ, _≤_};
-ghost use lib.ListN.{length};
-ghost use Rattle.steps.specs.Run.{doneTasks, finished};
+ghost use lib.ListN.{length, getD};
+ghost use lib.Dec.{leb};
+ghost use Rattle.layout.specs.Lists.{each, all};
+ghost use Rattle.steps.specs.Run.{doneTasks};
 ghost use Rattle.machine.specs.Arrays.{arrays, machineOf, Ready, Standing, tasksIn};
 
 // How many tasks are done: the owner is past the task, or at it and past its last operation.
@@ -30,9 +32,11 @@ pub fn done_tasks(file: &[u8], tasks: u32, cells: usize, places: &[Place; 8]) ->
 // 1 where all workers are past the last task.
 pub fn all_past(workers: u32, tasks: u32, places: &[Place; 8]) -> u32
     requires { ⌜ workers ≤ 8 ⌝ }
+    ensures { λ r. ⌜ r ≡ cond (all (λ w. leb tasks (getD (getD (now (places .entry)) w []) 0 0)) (each workers (λ w. w))) 1 0 ⌝ }
 {
+    let count = octets::offset(workers);
     let mut w = 0;
-    while w < octets::offset(workers) {
+    while w < count {
         if places[w][0] < tasks {
             return 0;
         }

@@ -1,0 +1,1 @@
+-- An accepted file is ready to be run: the rules that its rows keep are what the runs ask for.

@@ -1,0 +1,97 @@
+-- `plainly::plain_tasks` meets its contract. The invariant: the tasks left, done on the cells as they are, give what all give on the cells as
+-- they were.
+use mathlib.Core.Path.{_≡_, ap, sym, _∙_}
+use mathlib.Core.List.{List}
+use Prim.Native.Nat.{ℕ, _+_, _≤_, _-_}
+use native.Mathlib.Omega.{arith}
+use borrow.Author.Needs.{needs}
+use lib.ListN.{length, drop, getD}
+use Rattle.layout.specs.Row.{taskOf}
+use Rattle.layout.specs.File.{rowAt}
+use Rattle.steps.specs.Operations.{effect}
+use Rattle.steps.specs.Plain.{afterOperations, afterTasks}
+use Rattle.machine.specs.Arrays.{tasksIn}
+use Rattle.run.proofs.OneByOne.{row-there, row-fits, task-next, tasks-end}
+use Rattle.run.proofs.plainly.plain_tasks.Statement.{statement}
+use Rattle.run.proofs.plainly.plain_tasks.Tie as tie
+
+abbrev Inv-loop : tie.InvT-loop
+Inv-loop file tasks cells₀ done₀ cells done =
+    (done ≤ tasks) × (length cells ≡ length cells₀)
+    × (afterTasks effect (tasksIn file tasks) cells₀ ≡ afterTasks effect (drop done (tasksIn file tasks)) cells)
+
+abbrev μ-loop : tie.MeasureT-loop
+μ-loop file tasks cells₀ done₀ cells done = tasks - done
+
+loop-holds : tie.Need-loop-holds Inv-loop μ-loop
+loop-holds c = search needs
+
+add-start : tie.Need-add-start Inv-loop μ-loop
+add-start c = search needs
+
+start-requires : tie.Need-start-requires Inv-loop μ-loop
+start-requires c κs = search needs
+
+add-plain-task : tie.Need-add-plain-task Inv-loop μ-loop
+add-plain-task c = search needs
+
+sub-plain-task : tie.Need-sub-plain-task Inv-loop μ-loop
+sub-plain-task c = search needs
+
+part-plain-task-start : tie.Need-part-plain-task-start Inv-loop μ-loop
+part-plain-task-start c = search needs
+
+part-plain-task-end : tie.Need-part-plain-task-end Inv-loop μ-loop
+part-plain-task-end c = search needs
+
+plain-task-requires : tie.Need-plain-task-requires Inv-loop μ-loop
+plain-task-requires c κs =
+    let a = c .before .before .before .before .before .before .before .args in
+    let inv = c .before .before .before .before .loop .inv in
+    row-fits (a .file .now) (a .cells .now) (c .before .before .before .before .loop .cells) (a .tasks) (c .before .before .before .before .loop .done) _ (c .before .before .before .before .before .before .before .pre) (c .before .before .before .loop-test .taken) (c .before .before .start .ensures) (inv .1)
+
+add-done : tie.Need-add-done Inv-loop μ-loop
+add-done c = search needs
+
+loop-less : tie.Need-loop-less Inv-loop μ-loop
+loop-less c = search needs
+
+loop-again : tie.Need-loop-again Inv-loop μ-loop
+loop-again c =
+    let a = c .before .before .before .before .before .before .before .before .before .before .args in
+    let inv = c .before .before .before .before .before .before .before .loop .inv in (
+      search needs,
+      search needs,
+      task-next effect (a .tasks) (λ i. taskOf (rowAt (a .file .now) (i + 1))) (c .before .before .before .before .before .before .before .loop .done) _ (c .before .before .before .before .before .before .before .loop .cells) (c .before .before .before .before .before .before .loop-test .taken) (inv .2)
+          ∙ ap (afterTasks effect (drop (c .before .before .before .before .before .before .before .loop .done + 1) (tasksIn (a .file .now) (a .tasks))))
+          (sym (c .before .before .plain-task .ensures ∙ ap (λ (row : List ℕ). afterOperations effect (taskOf row .operations) (c .before .before .before .before .before .before .before .loop .cells)) (row-there (a .file .now) (c .before .before .before .before .before .start .result) (c .before .before .before .before .before .before .before .loop .done + 1) (c .before .before .before .before .before .start .ensures)))),
+    )
+
+same-length : tie.Need-same-length Inv-loop μ-loop
+same-length c = search needs
+
+returns : tie.Need-returns Inv-loop μ-loop
+returns c =
+    let a = c .before .before .before .before .args in
+    let inv = c .before .loop .inv in
+    tasks-end effect (a .tasks) (λ i. taskOf (rowAt (a .file .now) (i + 1))) (c .before .loop .done) _ (c .before .loop .cells) (c .loop-test .left) (inv .2)
+
+pub plain-tasks-spec : {M : Type 1} → statement M
+plain-tasks-spec =
+    tie.close
+    (tie.spec
+    Inv-loop
+    μ-loop
+    loop-holds
+    add-start
+    start-requires
+    add-plain-task
+    sub-plain-task
+    part-plain-task-start
+    part-plain-task-end
+    plain-task-requires
+    add-done
+    loop-less
+    loop-again
+    same-length
+    returns)

@@ -1,0 +1,99 @@
+use Rattle.run.proofs.telling.done_tasks.Statement.{statement}
+use Rattle.run.proofs.telling.done_tasks.Tie as tie
+use Rattle.run.proofs.telling.done_tasks.Reads as reads
+use Rattle.run.proofs.telling.done_tasks.Lts as lts
+use Rattle.octets.proofs.index.Reads as index-reads
+use Rattle.row.proofs.start.Reads as start-reads
+
+abbrev Inv-loop : tie.InvT-loop
+Inv-loop file tasks cells places done₀ index₀ done index = ?
+
+abbrev μ-loop : tie.MeasureT-loop
+μ-loop file tasks cells places done₀ index₀ done index = ?
+
+-- src/telling.rt:20:5
+loop-holds : tie.Need-loop-holds Inv-loop μ-loop
+loop-holds c = ?
+
+-- src/telling.rt:21:51
+add-start : tie.Need-add-start Inv-loop μ-loop
+add-start c = ?
+
+-- src/telling.rt:21:40
+start-requires : tie.Need-start-requires Inv-loop μ-loop
+start-requires c κs = ?
+
+-- src/telling.rt:21:35
+shared-slice-read-index : tie.Need-shared-slice-read-index Inv-loop μ-loop
+shared-slice-read-index c = ?
+
+-- src/telling.rt:21:13
+index-requires : tie.Need-index-requires Inv-loop μ-loop
+index-requires c κs = ?
+
+-- src/telling.rt:22:22
+mul-passed : tie.Need-mul-passed Inv-loop μ-loop
+mul-passed c = ?
+
+-- src/telling.rt:22:22
+index-1-passed : tie.Need-index-1-passed Inv-loop μ-loop
+index-1-passed c = ?
+
+-- src/telling.rt:22:22
+index-2-passed : tie.Need-index-2-passed Inv-loop μ-loop
+index-2-passed c = ?
+
+-- src/telling.rt:23:21
+mul-stage : tie.Need-mul-stage Inv-loop μ-loop
+mul-stage c = ?
+
+-- src/telling.rt:23:21
+index-1-stage : tie.Need-index-1-stage Inv-loop μ-loop
+index-1-stage c = ?
+
+-- src/telling.rt:23:21
+index-2-stage : tie.Need-index-2-stage Inv-loop μ-loop
+index-2-stage c = ?
+
+-- src/telling.rt:25:13
+add-done : tie.Need-add-done Inv-loop μ-loop
+add-done c = ?
+
+-- src/telling.rt:27:9
+add-index : tie.Need-add-index Inv-loop μ-loop
+add-index c = ?
+
+-- src/telling.rt:20:5
+loop-less : tie.Need-loop-less Inv-loop μ-loop
+loop-less c = ?
+
+-- src/telling.rt:20:5
+loop-again : tie.Need-loop-again Inv-loop μ-loop
+loop-again c = ?
+
+-- src/telling.rt:14:1
+returns : tie.Need-returns Inv-loop μ-loop
+returns c = ?
+
+pub done-tasks-spec : {M : Type 1} → statement M
+done-tasks-spec =
+    tie.close
+    (tie.spec
+    Inv-loop
+    μ-loop
+    loop-holds
+    add-start
+    start-requires
+    shared-slice-read-index
+    index-requires
+    mul-passed
+    index-1-passed
+    index-2-passed
+    mul-stage
+    index-1-stage
+    index-2-stage
+    add-done
+    add-index
+    loop-less
+    loop-again
+    returns)
