@@ -1,4 +1,5 @@
 -- The theorems of demand 3 and what they rest on.
+pub mod Accepted
 pub mod Advance
 pub mod Along
 pub mod Cells

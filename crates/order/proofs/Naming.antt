@@ -31,7 +31,7 @@ writing read = false
 writing write = true
 
 -- accesses that don't name a cell give it no mode
-unnamed-mode : (accesses : List Access) (c : ℕ) → names accesses c ≡ false → modeOf accesses c ≡ 0
+pub unnamed-mode : (accesses : List Access) (c : ℕ) → names accesses c ≡ false → modeOf accesses c ≡ 0
 unfolding names any modeOf
 unnamed-mode [] c unnamed = refl
 unnamed-mode (access ∷ accesses) c unnamed = go (eqb (access .cell) c) unnamed (unnamed-mode accesses c)
