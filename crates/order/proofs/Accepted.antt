@@ -56,14 +56,16 @@ keeps-of : (flow : Flow) → Sound flow → AllKeep (flow .workers) (flow .cells
 keeps-of flow sound =
     record {
       each-task = λ i h.
-        let task = sound .each-task i noTask h in
-        record {
-          owned = task .owned;
-          some-access = task .some-access;
-          in-range = task .accesses-in-range;
-          named-once = task .named-once;
-          writes = λ j l. writes-declared (taskAt (flow .tasks) i) j _ (keeps-at (taskAt (flow .tasks) i) (task .modes-kept) j l);
-          reads-b = λ j l. reads-named (taskAt (flow .tasks) i) j _ (keeps-at (taskAt (flow .tasks) i) (task .modes-kept) j l) } }
+          let task = sound .each-task i noTask h in
+          record {
+            owned = task .owned;
+            some-access = task .some-access;
+            in-range = task .accesses-in-range;
+            named-once = task .named-once;
+            writes = λ j l. writes-declared (taskAt (flow .tasks) i) j _ (keeps-at (taskAt (flow .tasks) i) (task .modes-kept) j l);
+            reads-b = λ j l. reads-named (taskAt (flow .tasks) i) j _ (keeps-at (taskAt (flow .tasks) i) (task .modes-kept) j l);
+          };
+    }
 
 -- 01's operations read b but for code 1
 pub reads-only : ReadsOnly effect
@@ -97,6 +99,7 @@ asked file cells schedule h =
       apart = record { apart = λ i j a b e. e };
       reads = reads-only;
       names = λ i l.
-        ltb-true _ _
-        (unless-kept (ltb (getD schedule i 0) (flowOf file .workers)) 14 (lit< tt)
-        (ap (byteNumber (flowOf file) schedule) (sym (zero-add i)) ∙ none-at (byteNumber (flowOf file) schedule) 0 (length schedule) bytes i l)) }
+          ltb-true _ _
+          (unless-kept (ltb (getD schedule i 0) (flowOf file .workers)) 14 (lit< tt)
+          (ap (byteNumber (flowOf file) schedule) (sym (zero-add i)) ∙ none-at (byteNumber (flowOf file) schedule) 0 (length schedule) bytes i l));
+    }

@@ -38,11 +38,11 @@ pub record Asked (s : Setting) (workers : ℕ) (start schedule : List ℕ) : Typ
 
 module _ (s : Setting) (workers : ℕ) (start schedule : List ℕ) (asked : Asked s workers start schedule) where
   -- what holds of the machine at every point of the run
-  record Holds (m : Machine) : Type 0 where
-    kept : Kept s m
-    cells : CellsKept s workers start (asked .keep) (asked .reads) m
+  pub record Holds (m : Machine) : Type 0 where
+    pub kept : Kept s m
+    pub cells : CellsKept s workers start (asked .keep) (asked .reads) m
 
-  holds : Holds (run s start schedule .machine)
+  pub holds : Holds (run s start schedule .machine)
   holds =
       along-machine s workers Holds start
       (record {

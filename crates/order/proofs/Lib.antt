@@ -17,12 +17,14 @@ pub mod Places
 pub mod Plain
 pub mod Protocol
 pub mod Put
+pub mod Reading
 pub mod Registered
 pub mod Rows
 pub mod Scan
 pub mod Seen
 pub mod Sides
 pub mod Sums
+pub mod Theorems
 pub mod Told
 pub mod Total
 pub mod Values

@@ -38,6 +38,23 @@ module _ (entries : List Made) (e : Made) where
   one-longer : length (entries ++ (e ∷ [])) ≡ length entries + 1
   one-longer = length-append entries (e ∷ [])
 
+-- ---- what a step adds to the history
+
+pub adds-own : (s : Setting) (m : Machine) (w : ℕ) {try : Try} → Trying s m w try
+    → madeBy s m w ≡ nextOperation (facing s m w) (m .places w) (try ∷ drop (m .places w .made + 1) (ownSteps (facing s m w)))
+unfolding madeFrom
+adds-own s m w trying =
+    rw (drop-cons (s .tasks) (m .places w .passed) noTask (trying .at-task), eq-eqb (facing s m w .owner) w (trying .owns), trying .here)
+
+pub adds-none-past : (s : Setting) (m : Machine) (w : ℕ) → m .places w .passed ≡ length (s .tasks) → madeBy s m w ≡ []
+unfolding madeFrom
+adds-none-past s m w e = rw (drop-of-length-le (s .tasks) {i = m .places w .passed} (omega arith))
+
+pub adds-none-other : (s : Setting) (m : Machine) (w : ℕ) → m .places w .passed < length (s .tasks) → (facing s m w .owner ≡ w → ⊥) → madeBy s m w ≡ []
+unfolding madeFrom
+adds-none-other s m w h not-own =
+    rw (drop-cons (s .tasks) (m .places w .passed) noTask h, ne-eqb (facing s m w .owner) w not-own)
+
 -- every operation made stands in the history
 pub record There (s : Setting) (entries : List Made) (m : Machine) : Type 0 where
   pub stands : (j i : ℕ) → j < length (s .tasks) → i < operationsMade (s .tasks) (m .places) j
@@ -162,23 +179,6 @@ module _ (s : Setting) (workers cells : ℕ) (keep : AllKeep workers cells (s .t
           let old = t .there .stands (earlier - 1) i (omega (arith, q, trying .at-task)) (omega (arith, complete)) in
           (old .0, old .1, entry-before entries e (old .0) (old .1) ∙ old .2 ∙ ap (λ (n : ℕ). made n i) up))
 
-  -- ---- what a step adds to the history
-
-  adds-own : (m : Machine) (w : ℕ) {try : Try} → Trying s m w try
-      → madeBy s m w ≡ nextOperation (facing s m w) (m .places w) (try ∷ drop (m .places w .made + 1) (ownSteps (facing s m w)))
-  unfolding madeFrom
-  adds-own m w trying =
-      rw (drop-cons (s .tasks) (m .places w .passed) noTask (trying .at-task), eq-eqb (facing s m w .owner) w (trying .owns), trying .here)
-
-  adds-none-past : (m : Machine) (w : ℕ) → m .places w .passed ≡ length (s .tasks) → madeBy s m w ≡ []
-  unfolding madeFrom
-  adds-none-past m w e = rw (drop-of-length-le (s .tasks) {i = m .places w .passed} (omega arith))
-
-  adds-none-other : (m : Machine) (w : ℕ) → m .places w .passed < length (s .tasks) → (facing s m w .owner ≡ w → ⊥) → madeBy s m w ≡ []
-  unfolding madeFrom
-  adds-none-other m w h not-own =
-      rw (drop-cons (s .tasks) (m .places w .passed) noTask h, ne-eqb (facing s m w .owner) w not-own)
-
   -- no operation is added, and as many are made
   quiet : (entries : List Made) (m after : Machine) (w : ℕ) → Told s entries m → madeBy s m w ≡ []
       → ((j : ℕ) → operationsMade (s .tasks) (after .places) j ≡ operationsMade (s .tasks) (m .places) j)
@@ -188,24 +188,24 @@ module _ (s : Setting) (workers cells : ℕ) (keep : AllKeep workers cells (s .t
   own-told : (entries : List Made) (m : Machine) (w : ℕ) → Kept s m → Told s entries m → (try : Try) → Trying s m w try
       → Told s (entries ++ madeBy s m w) (afterOwn s m w try)
   unfolding nextOperation
-  own-told entries m w k t (waitWrite c) trying = quiet entries m _ w t (adds-own m w trying) (made-other s m w trying refl)
-  own-told entries m w k t (waitReads c) trying = quiet entries m _ w t (adds-own m w trying) (made-other s m w trying refl)
+  own-told entries m w k t (waitWrite c) trying = quiet entries m _ w t (adds-own s m w trying) (made-other s m w trying refl)
+  own-told entries m w k t (waitReads c) trying = quiet entries m _ w t (adds-own s m w trying) (made-other s m w trying refl)
   own-told entries m w k t (operate o) trying =
-      subst (λ (added : List Made). Told s (entries ++ added) (afterOwn s m w (operate o))) (sym (adds-own m w trying))
+      subst (λ (added : List Made). Told s (entries ++ added) (afterOwn s m w (operate o))) (sym (adds-own s m w trying))
       (told-more entries m w k t trying)
-  own-told entries m w k t (endRead c) trying = quiet entries m _ w t (adds-own m w trying) (made-other s m w trying refl)
-  own-told entries m w k t (zeroReads c) trying = quiet entries m _ w t (adds-own m w trying) (made-other s m w trying refl)
-  own-told entries m w k t (postWrite c) trying = quiet entries m _ w t (adds-own m w trying) (made-other s m w trying refl)
+  own-told entries m w k t (endRead c) trying = quiet entries m _ w t (adds-own s m w trying) (made-other s m w trying refl)
+  own-told entries m w k t (zeroReads c) trying = quiet entries m _ w t (adds-own s m w trying) (made-other s m w trying refl)
+  own-told entries m w k t (postWrite c) trying = quiet entries m _ w t (adds-own s m w trying) (made-other s m w trying refl)
 
   pub told-step : (entries : List Made) (m : Machine) (w : ℕ) → Kept s m → Told s entries m → Told s (entries ++ madeBy s m w) (step s m w .machine)
   unfolding nextOperation
   told-step entries m w k t = go (view s m w (k .standing .each-worker w))
     where
       go : {r : Stepped} → StepView s m w r → Told s (entries ++ madeBy s m w) (r .machine)
-      go (past e) = quiet entries m m w t (adds-none-past m w e) (λ j. refl)
+      go (past e) = quiet entries m m w t (adds-none-past s m w e) (λ j. refl)
       go (other h not-own none) =
-          quiet entries m _ w t (adds-none-other m w h not-own)
+          quiet entries m _ w t (adds-none-other s m w h not-own)
           (λ j. ap (operationsAmong (taskAt (s .tasks) j)) (own-made-past (s .tasks) (m .places) w not-own none j))
-      go (held trying e (on-write p)) = quiet entries m m w t (adds-own m w trying) (λ j. refl)
-      go (held trying e (on-reads p)) = quiet entries m m w t (adds-own m w trying) (λ j. refl)
+      go (held trying e (on-write p)) = quiet entries m m w t (adds-own s m w trying) (λ j. refl)
+      go (held trying e (on-reads p)) = quiet entries m m w t (adds-own s m w trying) (λ j. refl)
       go (StepView.made {try} trying e passes) = own-told entries m w k t try trying
