@@ -2,5 +2,6 @@
 pub mod Places
 pub mod Machines
 pub mod Changes
+pub mod Rows
 pub mod Steps
 pub mod Growth

@@ -1,0 +1,81 @@
+-- `measure::access_steps` meets its contract. The invariant: the steps so far and those of the accesses left are those of all.
+use mathlib.Core.Path.{_≡_, refl, sym, ap, _∙_}
+use mathlib.Core.Bool.{Bool, true, false, cond}
+use mathlib.Core.Logic.{⊎-elim}
+use Prim.Native.Nat.{_+_, _*_, _≤_, _-_}
+use native.Mathlib.Omega.{arith}
+use borrow.Author.Needs.{needs}
+use lib.ListN.{length, drop, getD}
+use Rattle.layout.specs.Row.{taskOf, accessAt}
+use Rattle.steps.specs.Run.{accessSteps}
+use Rattle.measure.proofs.Sums.{access-next, access-end}
+use Rattle.measure.proofs.access_steps.Statement.{statement}
+use Rattle.measure.proofs.access_steps.Tie as tie
+
+abbrev Inv-loop : tie.InvT-loop
+Inv-loop row count steps₀ j₀ steps j =
+    (j ≤ count) × (count ≡ getD row 1 0) × (steps ≤ 4 * j)
+    × (accessSteps (taskOf row .accesses) ≡ steps + accessSteps (drop j (taskOf row .accesses)))
+
+abbrev μ-loop : tie.MeasureT-loop
+μ-loop row count steps₀ j₀ steps j = count - j
+
+shared-slice-read-index : tie.Need-shared-slice-read-index Inv-loop μ-loop
+shared-slice-read-index c = search needs
+
+index-requires : tie.Need-index-requires Inv-loop μ-loop
+index-requires c κs = search needs
+
+loop-holds : tie.Need-loop-holds Inv-loop μ-loop
+loop-holds c = search needs
+
+is-write-requires : tie.Need-is-write-requires Inv-loop μ-loop
+is-write-requires c κs = search needs
+
+add-steps : tie.Need-add-steps Inv-loop μ-loop
+add-steps c = search needs
+
+add-steps-2 : tie.Need-add-steps-2 Inv-loop μ-loop
+add-steps-2 c = search needs
+
+add-j : tie.Need-add-j Inv-loop μ-loop
+add-j c = search needs
+
+loop-less : tie.Need-loop-less Inv-loop μ-loop
+loop-less c = search needs
+
+loop-again : tie.Need-loop-again Inv-loop μ-loop
+unfolding taskOf
+loop-again c =
+    let row = c .before .before .before .before .before .before .before .args .row .now in
+    let steps = c .before .before .before .loop .steps in
+    let write = c .before .is-write .result in
+    let more : (c .if1 .steps ≡ steps + cond write 4 2) × (c .if1 .steps ≤ steps + 4) =
+        ⊎-elim (λ w. (w .1 ∙ ap (λ (b : Bool). steps + cond b 4 2) (sym (w .0 .taken)), omega arith))
+        (λ w. (w .1 ∙ ap (λ (b : Bool). steps + cond b 4 2) (sym (w .0 .left)), omega arith)) (c .if1 .came) in
+    (search needs, search needs, omega (arith, more .1),
+    access-next (getD row 1 0) (accessAt row) (c .before .before .before .loop .j) steps (c .if1 .steps) _ write (search needs) (c .before .is-write .ensures) (more .0)
+    (c .before .before .before .loop .inv .3))
+
+returns : tie.Need-returns Inv-loop μ-loop
+unfolding taskOf
+returns c =
+    let row = c .before .before .before .before .before .args .row .now in
+    (access-end (getD row 1 0) (accessAt row) (c .before .loop .j) (c .before .loop .steps) _ (search needs) (c .before .loop .inv .3), search needs)
+
+pub access-steps-spec : {M : Type 1} → statement M
+access-steps-spec =
+    tie.close
+    (tie.spec
+    Inv-loop
+    μ-loop
+    shared-slice-read-index
+    index-requires
+    loop-holds
+    is-write-requires
+    add-steps
+    add-steps-2
+    add-j
+    loop-less
+    loop-again
+    returns)

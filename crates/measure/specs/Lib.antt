@@ -1,0 +1,2 @@
+-- What is measured of a flow file.
+pub mod Promises

@@ -1,0 +1,81 @@
+// The measuring of a flow file: its sizes and its total of advancing steps.
+ghost use mathlib.Core.Path.{_≡_};
+ghost use Prim.Native.Nat.{ℕ, _+_, _-_, _*_, _≤_, _<_};
+ghost use lib.ListN.{length, getD};
+ghost use Rattle.layout.specs.Row.{taskOf};
+ghost use Rattle.layout.specs.Block.{blocksFor};
+ghost use Rattle.layout.specs.File.{rowAt};
+ghost use Rattle.steps.specs.Run.{accessSteps, totalOf};
+ghost use Rattle.machine.specs.Arrays.{RowFits, Ready, tasksIn};
+ghost use Rattle.measure.specs.Promises.{MeasurePromise};
+
+// What is measured: a refusal, or the flow's sizes and its total.
+pub struct Measured {
+    pub number: u32,
+    pub place: u32,
+    pub tasks: u32,
+    pub workers: u32,
+    pub cells: u32,
+    pub total: u32,
+}
+
+// The steps of a row's accesses: 2 for each read, 4 for each write.
+fn access_steps(row: &[u8]) -> u32
+    requires { ⌜ (length (now row) ≡ 48) × (getD (now row) 1 0 ≤ 4) ⌝ }
+    ensures { λ r. ⌜ (r ≡ accessSteps (taskOf (now (row .entry)) .accesses)) × (r ≤ 16) ⌝ }
+{
+    let count = octets::index(row[1]);
+    let mut steps: u32 = 0;
+    let mut j = 0;
+    while j < count {
+        if machine::counters::is_write(row, j) {
+            steps += 4;
+        } else {
+            steps += 2;
+        }
+        j += 1;
+    }
+    steps
+}
+
+// The total of an accepted file's tasks.
+fn tasks_total(file: &[u8], tasks: u32, workers: u32) -> u32
+    requires { ⌜ Ready (now file) tasks (getD (now file) 13 0) × (1 ≤ workers) × (workers ≤ 8) ⌝ }
+    ensures { λ r. ⌜ (r ≡ totalOf workers (tasksIn (now (file .entry)) tasks)) × (r ≤ 29 * tasks) ⌝ }
+{
+    let mut total: u32 = 0;
+    let mut done: u32 = 0;
+    while done < tasks {
+        let from = row::start(done + 1);
+        let row = &file[from..from + 48];
+        total += access_steps(row) + octets::wide(row[2]) + (workers - 1);
+        done += 1;
+    }
+    total
+}
+
+// The check of a flow file and the flow's total, zero with a refusal.
+pub fn measure(file: &[u8]) -> Measured
+    ensures { λ r. ⌜ MeasurePromise (now (file .entry)) r ⌝ }
+{
+    let met = file::check(file);
+    if met.number != 0 {
+        return Measured {
+            number: met.number,
+            place: met.place,
+            tasks: 0,
+            workers: 0,
+            cells: 0,
+            total: 0,
+        };
+    }
+    let total = tasks_total(file, met.tasks, met.workers);
+    Measured {
+        number: 0,
+        place: 0,
+        tasks: met.tasks,
+        workers: met.workers,
+        cells: met.cells,
+        total,
+    }
+}
