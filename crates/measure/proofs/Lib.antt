@@ -1,2 +1,3 @@
--- Laws of the total that the proofs of the code cite.
+-- Laws of the total and of the schedule in turn that the proofs of the code cite.
+pub mod Filled
 pub mod Sums

@@ -21,7 +21,7 @@ module _ (n : ℕ) (f : ℕ → Access) where
   unfolding accessSteps
   access-next j steps more whole write h e m w =
       let left : accessSteps (drop j (each n f)) ≡ cond write 4 2 + accessSteps (drop (j + 1) (each n f)) =
-          ap accessSteps (each-drop n f j h) ∙ ap (λ (b : Bool). cond b 4 2 + accessSteps (drop (j + 1) (each n f))) (sym e) in
+      ap accessSteps (each-drop n f j h) ∙ ap (λ (b : Bool). cond b 4 2 + accessSteps (drop (j + 1) (each n f))) (sym e) in
       omega arith
 
   pub access-end : (j steps whole : ℕ) → n ≤ j → whole ≡ steps + accessSteps (drop j (each n f)) → steps ≡ whole

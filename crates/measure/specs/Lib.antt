@@ -1,2 +1,3 @@
--- What is measured of a flow file.
+-- What is measured of a flow file, and the schedule that names the workers in turn.
 pub mod Promises
+pub mod Turns

@@ -1,4 +1,7 @@
-// The measuring of a flow file: its sizes and its total of advancing steps.
+// The measuring of a flow file: its sizes and its total of advancing steps; and the schedule that names the workers in turn.
+mod turns;
+
+pub use turns::in_turn;
 ghost use mathlib.Core.Path.{_≡_};
 ghost use Prim.Native.Nat.{ℕ, _+_, _-_, _*_, _≤_, _<_};
 ghost use lib.ListN.{length, getD};

@@ -51,11 +51,14 @@ loop-again c =
     let steps = c .before .before .before .loop .steps in
     let write = c .before .is-write .result in
     let more : (c .if1 .steps ≡ steps + cond write 4 2) × (c .if1 .steps ≤ steps + 4) =
-        ⊎-elim (λ w. (w .1 ∙ ap (λ (b : Bool). steps + cond b 4 2) (sym (w .0 .taken)), omega arith))
-        (λ w. (w .1 ∙ ap (λ (b : Bool). steps + cond b 4 2) (sym (w .0 .left)), omega arith)) (c .if1 .came) in
-    (search needs, search needs, omega (arith, more .1),
-    access-next (getD row 1 0) (accessAt row) (c .before .before .before .loop .j) steps (c .if1 .steps) _ write (search needs) (c .before .is-write .ensures) (more .0)
-    (c .before .before .before .loop .inv .3))
+    ⊎-elim (λ w. (w .1 ∙ ap (λ (b : Bool). steps + cond b 4 2) (sym (w .0 .taken)), omega arith))
+    (λ w. (w .1 ∙ ap (λ (b : Bool). steps + cond b 4 2) (sym (w .0 .left)), omega arith)) (c .if1 .came) in (
+      search needs,
+      search needs,
+      omega (arith, more .1),
+      access-next (getD row 1 0) (accessAt row) (c .before .before .before .loop .j) steps (c .if1 .steps) _ write (search needs) (c .before .is-write .ensures) (more .0)
+          (c .before .before .before .loop .inv .3),
+    )
 
 returns : tie.Need-returns Inv-loop μ-loop
 unfolding taskOf

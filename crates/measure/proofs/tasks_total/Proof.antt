@@ -78,18 +78,21 @@ loop-again c =
     let done = c .before .before .before .before .before .before .loop .done in
     let from = c .before .before .before .before .start in
     let fits = row-fits (a .file .now) (a .tasks) done _ _ (c .before .before .before .before .before .before .before .before .pre .0) (c .before .before .before .before .before .loop-test .taken) (from .ensures) in
-    let accesses = c .before .before .access-steps .ensures in
-    (search needs, omega (arith, accesses .1, c .wide .ensures .0, fits .few-operations),
-    task-next (a .workers) (a .tasks) (λ i. taskOf (rowAt (a .file .now) (i + 1))) done (c .before .before .before .before .before .before .loop .total) _ _ (c .before .before .before .before .before .loop-test .taken)
-    (ap (λ (n : ℕ). c .before .before .before .before .before .before .loop .total + n)
-    (row-counts _ (rowAt (a .file .now) (done + 1)) _ _ _ (row-there (a .file .now) (from .result) (done + 1) (from .ensures)) (accesses .0) (c .wide .ensures .0)))
-    (c .before .before .before .before .before .before .loop .inv .2))
+    let accesses = c .before .before .access-steps .ensures in (
+      search needs,
+      omega (arith, accesses .1, c .wide .ensures .0, fits .few-operations),
+      task-next (a .workers) (a .tasks) (λ i. taskOf (rowAt (a .file .now) (i + 1))) done (c .before .before .before .before .before .before .loop .total) _ _ (c .before .before .before .before .before .loop-test .taken)
+          (ap (λ (n : ℕ). c .before .before .before .before .before .before .loop .total + n)
+          (row-counts _ (rowAt (a .file .now) (done + 1)) _ _ _ (row-there (a .file .now) (from .result) (done + 1) (from .ensures)) (accesses .0) (c .wide .ensures .0)))
+          (c .before .before .before .before .before .before .loop .inv .2),
+    )
 
 returns : tie.Need-returns Inv-loop μ-loop
 returns c =
-    let a = c .before .before .before .args in
-    (task-end (a .workers) (a .tasks) (λ i. taskOf (rowAt (a .file .now) (i + 1))) (c .before .loop .done) (c .before .loop .total) _ (c .loop-test .left) (c .before .loop .inv .2),
-    search needs)
+    let a = c .before .before .before .args in (
+      task-end (a .workers) (a .tasks) (λ i. taskOf (rowAt (a .file .now) (i + 1))) (c .before .loop .done) (c .before .loop .total) _ (c .loop-test .left) (c .before .loop .inv .2),
+      search needs,
+    )
 
 pub tasks-total-spec : {M : Type 1} → statement M
 tasks-total-spec =

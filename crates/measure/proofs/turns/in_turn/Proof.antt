@@ -1,0 +1,69 @@
+-- `turns::in_turn` meets its contract. The invariant: the bytes passed name the workers in turn, and the next is at hand.
+use mathlib.Core.Path.{_≡_, refl, sym, ap, _∙_}
+use mathlib.Core.List.{_++_}
+use Prim.Native.Nat.{ℕ, _+_, _≤_, _-_}
+use native.Mathlib.Numerals.{add-one}
+use borrow.Author.Needs.{needs}
+use lib.ListN.{length, drop}
+use Rattle.layout.specs.Lists.{each}
+use Rattle.measure.specs.Turns.{following, turn}
+use Rattle.measure.proofs.Filled.{filled-more, filled-all}
+use Rattle.measure.proofs.turns.in_turn.Statement.{statement}
+use Rattle.measure.proofs.turns.in_turn.Tie as tie
+
+abbrev Inv-loop : tie.InvT-loop
+Inv-loop workers schedule₀ w₀ i₀ schedule w i =
+    (i ≤ length schedule₀) × (length schedule ≡ length schedule₀) × (w ≡ turn workers i)
+    × (schedule ≡ each i (turn workers) ++ drop i schedule₀)
+
+abbrev μ-loop : tie.MeasureT-loop
+μ-loop workers schedule₀ w₀ i₀ schedule w i = length schedule₀ - i
+
+loop-holds : tie.Need-loop-holds Inv-loop μ-loop
+unfolding turn each
+loop-holds c = (search needs, search needs, refl, refl)
+
+slice-write-schedule : tie.Need-slice-write-schedule Inv-loop μ-loop
+slice-write-schedule c = search needs
+
+next-turn-requires : tie.Need-next-turn-requires Inv-loop μ-loop
+next-turn-requires c κs = search needs
+
+add-i : tie.Need-add-i Inv-loop μ-loop
+add-i c = search needs
+
+loop-less : tie.Need-loop-less Inv-loop μ-loop
+loop-less c = search needs
+
+loop-again : tie.Need-loop-again Inv-loop μ-loop
+unfolding turn each
+loop-again c =
+    let a = c .before .before .before .before .args in
+    let at = c .before .before .loop in
+    (search needs, search needs,
+    c .next-turn .ensures ∙ ap (following (a .workers)) (at .inv .2) ∙ ap (turn (a .workers)) (sym (add-one (at .i))),
+    filled-more (turn (a .workers)) (a .schedule .now) (at .schedule) (at .i) (search needs) (at .inv .3) (at .w) (at .inv .2))
+
+same-length : tie.Need-same-length Inv-loop μ-loop
+same-length c = search needs
+
+returns : tie.Need-returns Inv-loop μ-loop
+returns c =
+    let a = c .before .before .before .args in
+    let at = c .before .loop in
+    filled-all (turn (a .workers)) (a .schedule .now) (at .schedule) (at .i) (at .inv .0) (search needs) (at .inv .3)
+
+pub in-turn-spec : {M : Type 1} → statement M
+in-turn-spec =
+    tie.close
+    (tie.spec
+    Inv-loop
+    μ-loop
+    loop-holds
+    slice-write-schedule
+    next-turn-requires
+    add-i
+    loop-less
+    loop-again
+    same-length
+    returns)
