@@ -1,2 +1,32 @@
--- Theorems over the rules of the runs.
+-- P1 to P10, demand 3 and the auditor's question (`Theorems`), and what they rest on.
+pub mod Accepted
+pub mod Advance
+pub mod Along
 pub mod Bench
+pub mod Cells
+pub mod Complete
+pub mod Demand3
+pub mod Invariant
+pub mod Kind
+pub mod Modes
+pub mod Named
+pub mod Naming
+pub mod OnCell
+pub mod OwnMade
+pub mod OwnSteps
+pub mod Passing
+pub mod Places
+pub mod Plain
+pub mod Protocol
+pub mod Put
+pub mod Reading
+pub mod Registered
+pub mod Rows
+pub mod Scan
+pub mod Seen
+pub mod Sides
+pub mod Sums
+pub mod Theorems
+pub mod Told
+pub mod Total
+pub mod Values

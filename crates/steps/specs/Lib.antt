@@ -1,4 +1,5 @@
--- The rules of 01 for running a flow. Each module opens with what it defines and with the part of 01 that it stands for.
+-- The rules of 01 for running a flow, and the words and statements of demand 3. Each module opens with what it defines and with the part
+-- of 01 that it stands for.
 pub mod Operations
 pub mod Plain
 pub mod Machine
@@ -7,3 +8,6 @@ pub mod Run
 pub mod History
 pub mod Answers
 pub mod Bench
+pub mod Conflict
+pub mod Demand
+pub mod Auditor

@@ -1,0 +1,120 @@
+-- Progress. Take a worker that has gone past the fewest tasks. Where the owner of the next task has gone further, the worker is at another's task
+-- and registers it, which is never held. Where the owner is at it, all earlier tasks are complete, so nobody later can have posted or zeroed a cell
+-- that it still waits for, and its step advances.
+use mathlib.Core.Path.{_≡_, refl, sym, ap, subst, _∙_}
+use mathlib.Core.Bool.{Bool, true, false, cond}
+use mathlib.Core.List.{List}
+use Prim.Native.Nat.{ℕ, zero, suc, _+_, _<_, _≤_}
+use native.Mathlib.Nat.{not-suc-le-zero}
+use native.Mathlib.Omega.{arith}
+use borrow.Author.Tests.{eqb-true, eqb-false, eq-eqb, leb-true, leb-false}
+use lib.ListN.{length}
+use lib.Dec.{eqb, leb}
+use Rattle.layout.specs.Flow.{Task}
+use Rattle.layout.specs.Row.{namedOnce}
+use Rattle.steps.specs.Machine.{Machine, Place}
+use Rattle.steps.specs.Step.{Setting, Try, waitWrite, waitReads, ownSteps, Outcome, advanced, Stepped, step}
+use Rattle.steps.specs.Conflict.{taskAt, AllKeep, Keeps}
+use Rattle.steps.specs.Demand.{Progress}
+use Rattle.steps.proofs.Kind.{full}
+use Rattle.steps.proofs.OnCell.{on, stage, stage-end}
+use Rattle.steps.proofs.OwnMade.{ownMade, made-past, order}
+use Rattle.steps.proofs.Places.{facing, Trying, Passes, Waits, on-write, on-reads, StepView, past, other, held, view}
+use Rattle.steps.proofs.Protocol.{inv-free}
+use Rattle.steps.proofs.Rows.{kinds}
+use Rattle.steps.proofs.Seen.{seen, below-there, passes-there}
+use Rattle.steps.proofs.Invariant.{Kept}
+
+-- ---- one that has the least
+
+pub record Least (f : ℕ → ℕ) (n : ℕ) : Type 0 where
+  pub at : ℕ
+  pub inside : at < n
+  pub least : (v : ℕ) → v < n → f at ≤ f v
+
+least-of : (f : ℕ → ℕ) (n : ℕ) → Least f (suc n)
+least-of f zero = record { at = 0; inside = omega arith; least = λ v h. only v (omega arith) }
+  where
+    only : (v : ℕ) → v ≡ 0 → f 0 ≤ f v
+    only v e = omega (arith, ap f e)
+least-of f (suc n) = go (least-of f n)
+  where
+    go : Least f (suc n) → Least f (suc (suc n))
+    go before = pick (leb (f (before .at)) (f (suc n))) refl
+      where
+        pick : (t : Bool) → leb (f (before .at)) (f (suc n)) ≡ t → Least f (suc (suc n))
+        pick true e =
+            record {
+              at = before .at;
+              inside = omega (arith, before .inside);
+              least = λ v h. order v (suc n) (before .least v) (λ q. omega (arith, leb-true (f (before .at)) (f (suc n)) e, ap f q)) (λ l. absurd (omega arith));
+            }
+        pick false e =
+            record {
+              at = suc n;
+              inside = omega arith;
+              least = λ v h. order v (suc n) (λ l. omega (arith, before .least v l, leb-false (f (before .at)) (f (suc n)) e)) (λ q. omega (arith, ap f q)) (λ l. absurd (omega arith));
+            }
+
+least-below : (f : ℕ → ℕ) (n v : ℕ) → v < n → Least f n
+least-below f zero v h = absurd (not-suc-le-zero h)
+least-below f (suc n) v h = least-of f n
+
+module _ (s : Setting) (workers cells : ℕ) (keep : AllKeep workers cells (s .tasks)) (m : Machine) (k : Kept s m) where
+  -- the tasks before those that every worker has gone past are complete on every cell
+  all-ended : (p : ℕ) → p ≤ length (s .tasks) → ((v : ℕ) → v < workers → p ≤ m .places v .passed) → (c i : ℕ) → i < p
+      → seen s m c .stage i ≡ full (kinds s c i)
+  all-ended p inside least c i l =
+      let task = keep .each-task i (omega arith) in
+      ap (stage (taskAt (s .tasks) i) c)
+      (made-past (length (ownSteps (taskAt (s .tasks) i))) i (m .places (taskAt (s .tasks) i .owner)) (omega (arith, least _ (task .owned))))
+      ∙ stage-end (taskAt (s .tasks) i) c (task .named-once)
+
+  -- the owner of the first task that some worker is at is not held
+  passing : (w : ℕ) → ((v : ℕ) → v < workers → m .places w .passed ≤ m .places v .passed) → (try : Try) (c : ℕ) → on c try ≡ true → Trying s m w try
+      → Passes m w try
+  passing w least try c o trying =
+      let once : namedOnce (facing s m w .accesses) ≡ true = keep .each-task _ (trying .at-task) .named-once in
+      passes-there s m w try trying c once o (k .rows w)
+      (inv-free (kinds s c) (s .number) (length (s .tasks)) (seen s m c) (k .cells c) (m .places w .passed)
+      (all-ended (m .places w .passed) (omega (arith, trying .at-task)) least c) (below-there s m w try trying c once o))
+
+  not-held : (w : ℕ) → ((v : ℕ) → v < workers → m .places w .passed ≤ m .places v .passed) → {try : Try} {why : Outcome} → Trying s m w try
+      → Waits m w try why → ⊥
+  not-held w least trying (on-write {c} differs) = differs (passing w least (waitWrite c) c (eq-eqb c c refl) trying)
+  not-held w least trying (on-reads {c} differs) = differs (passing w least (waitReads c) c (eq-eqb c c refl) trying)
+
+  -- a worker that has gone past the fewest tasks advances, or the owner of its task does
+  pub progress : Progress s workers m
+  progress left inside more = go (least-below (λ v. m .places v .passed) workers left inside)
+    where
+      go : Least (λ v. m .places v .passed) workers → (w : ℕ) × (w < workers) × (step s m w .outcome ≡ advanced)
+      go best =
+          order (m .places o .passed) (m .places v .passed) (λ l. absurd (omega (arith, best .least o owned)))
+          (λ e. (o, owned, at-own e (view s m o (k .standing .each-worker o))))
+          (λ l. (v, best .inside, at-other l (view s m v (k .standing .each-worker v))))
+        where
+          v : ℕ
+          v = best .at
+
+          at-task : m .places v .passed < length (s .tasks)
+          at-task = omega (arith, best .least left inside)
+
+          o : ℕ
+          o = facing s m v .owner
+
+          owned : o < workers
+          owned = keep .each-task _ at-task .owned
+
+          at-own : m .places o .passed ≡ m .places v .passed → {r : Stepped} → StepView s m o r → r .outcome ≡ advanced
+          at-own e (past q) = absurd (omega (arith, at-task))
+          at-own e (other h not-own none) = absurd (not-own (ap (λ (i : ℕ). taskAt (s .tasks) i .owner) e))
+          at-own e (held trying q waits) =
+              absurd (not-held o (λ u h. omega (arith, best .least u h)) trying waits)
+          at-own e (StepView.made trying q passes) = refl
+
+          at-other : m .places v .passed < m .places o .passed → {r : Stepped} → StepView s m v r → r .outcome ≡ advanced
+          at-other l (past q) = absurd (omega (arith, at-task))
+          at-other l (other h not-own none) = refl
+          at-other l (held trying q waits) = absurd (omega (arith, ap (λ (u : ℕ). m .places u .passed) (trying .owns)))
+          at-other l (StepView.made trying q passes) = refl

@@ -1,0 +1,85 @@
+-- The counters of a cell keep its tasks in list order, under every schedule of steps. A wait for the last write passes only where every
+-- write before the task has posted, since a number is posted by one task alone; a write's wait for the reads passes only where every
+-- read since that write has ended, since each of them counts once; and a task with nobody unfinished before it finds both counters as
+-- it waits for them.
+use mathlib.Core.Path.{_≡_, refl, sym, ap, _∙_}
+use Prim.Native.Nat.{ℕ, zero, suc, _<_}
+use native.Mathlib.Omega.{arith}
+use Rattle.steps.proofs.Protocol.Words.{Kind, none, read, write, full, next, lastBefore, sumBefore, State, start, Passes, Allowed, lastWriteAfter, readsAfter, after, Apart, Ended, Acquired, InConflict}
+use Rattle.steps.proofs.Protocol.Before.{sum-same, sum-none}
+use Rattle.steps.proofs.Protocol.Invariant.{counts, Inv, open-after-posted}
+use Rattle.steps.proofs.Protocol.Steps.{Now, wait-write, wait-reads, end-read, zero-reads, post-write}
+pub mod Words
+pub mod Before
+pub mod Invariant
+pub mod Steps
+
+module _ (kind : ℕ → Kind) (number : ℕ → ℕ) (n : ℕ) where
+  -- at the start no task has begun, and none has posted
+  pub inv-start : Inv kind number n (start number)
+  unfolding lastBefore sumBefore
+  inv-start =
+      record {
+        last = 0;
+        within = omega arith;
+        marked = refl;
+        shown = refl;
+        order = record { bounded = λ j. omega arith; begun = λ i j l w s. absurd (omega arith); alone = λ i j l w s. absurd (omega arith) };
+        posted = record { before = λ i w l. absurd (omega arith); beyond = λ i w l. omega (arith, ap full w) };
+        count = record { counted = λ k w o s. sym (sum-none kind (λ i. 0) 0 k (omega arith) refl (λ m l. refl)); zeroed = λ k w o s. refl };
+      }
+
+  -- a step that is not held keeps what holds
+  pub inv-step : Apart number n → (st : State) → Inv kind number n st → (j : ℕ) → j < n → st .stage j < full (kind j)
+      → Allowed kind number st j → Inv kind number n (after kind number st j)
+  inv-step apart st I j b h = go (kind j) (st .stage j) refl refl h
+    where
+      go : (k : Kind) (s : ℕ) → kind j ≡ k → st .stage j ≡ s → s < full k → Passes kind number st j (next k s)
+          → Now kind number n st I j h (lastWriteAfter (next k s) (number (suc j)) (st .lastWrite)) (readsAfter (next k s) (st .reads))
+      go none s ke se l passed = absurd (omega arith)
+      go read zero ke se l passed = wait-write kind number n st I j h apart b se passed
+      go read (suc zero) ke se l passed = end-read kind number n st I j h ke se
+      go read (suc (suc s)) ke se l passed = absurd (omega arith)
+      go write zero ke se l passed = wait-write kind number n st I j h apart b se passed
+      go write (suc zero) ke se l passed = wait-reads kind number n st I j h ke se passed
+      go write (suc (suc zero)) ke se l passed = zero-reads kind number n st I j h ke se
+      go write (suc (suc (suc zero))) ke se l passed = post-write kind number n st I j h b ke se
+      go write (suc (suc (suc (suc s)))) ke se l passed = absurd (omega arith)
+
+  -- of two tasks in conflict, the later has the cell only once the earlier has ended
+  pub inv-order : (st : State) → Inv kind number n st → (i j : ℕ) → i < j → Acquired (kind j) (st .stage j) → InConflict (kind i) (kind j)
+      → Ended kind (st .stage) i
+  inv-order st I i j h = go (kind i) (kind j) refl refl
+    where
+      go : (k l : Kind) → kind i ≡ k → kind j ≡ l → Acquired l (st .stage j) → InConflict k l → Ended kind (st .stage) i
+      go none l ke le has c = absurd c
+      go read none ke le has c = absurd c
+      go read read ke le has c = absurd c
+      go read write ke le has c = I .order .alone i j h le has
+      go write none ke le has c = absurd c
+      go write read ke le has c = I .order .begun i j h ke has
+      go write write ke le has c = I .order .alone i j h le has
+
+  -- a task is not held where all tasks before it have ended
+  pub inv-free : (st : State) → Inv kind number n st → (p : ℕ) → ((i : ℕ) → i < p → Ended kind (st .stage) i) → st .stage p < full (kind p)
+      → Allowed kind number st p
+  inv-free st I p ended h = go (kind p) (st .stage p) refl refl h
+    where
+      opened : lastBefore kind p ≡ I .last
+      opened = open-after-posted kind number n st I p h (λ i l w. ended i l)
+
+      shown : st .lastWrite ≡ number (lastBefore kind p)
+      shown = I .shown ∙ ap number (sym opened)
+
+      go : (k : Kind) (s : ℕ) → kind p ≡ k → st .stage p ≡ s → s < full k → Passes kind number st p (next k s)
+      go none s ke se l = tt
+      go read zero ke se l = shown
+      go read (suc zero) ke se l = tt
+      go read (suc (suc s)) ke se l = tt
+      go write zero ke se l = shown
+      go write (suc zero) ke se l =
+          I .count .counted p ke opened (omega arith)
+          ∙ sum-same kind (λ i. counts (st .stage i)) (λ i. 1) p (λ i b r. rw (ended i b, r))
+      go write (suc (suc zero)) ke se l = tt
+      go write (suc (suc (suc zero))) ke se l = tt
+      go write (suc (suc (suc (suc s)))) ke se l = tt

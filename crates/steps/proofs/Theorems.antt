@@ -1,0 +1,68 @@
+-- Demand 3, proved of every accepted flow, every start and every schedule, and the auditor's question. Each statement is defined in specs/: the five
+-- of demand 3 in specs/Demand.antt, the auditor's in specs/Auditor.antt. `runAnswer` is what the stepped run answers to the file, the starting cells
+-- and the schedule: number 0 says that all three are accepted. The schedule is any that is accepted, so what is said of the end of the run is said of
+-- every point of every run.
+use mathlib.Core.Path.{_≡_, ap}
+use mathlib.Core.Bool.{Bool, true, _||_}
+use mathlib.Core.List.{List}
+use Prim.Native.Nat.{ℕ, _<_, _≤_}
+use lib.ListN.{length}
+use Rattle.layout.specs.File.{flowOf}
+use Rattle.steps.specs.Step.{Setting}
+use Rattle.steps.specs.Run.{run, settingOf}
+use Rattle.steps.specs.Answers.{runAnswer}
+use Rattle.steps.specs.Conflict.{namesCell, declaresWritten, Conflict}
+use Rattle.steps.specs.Demand.{history, numbered, OnlyDeclared, InOrder, Progress, Total, Values, Demand3}
+use Rattle.steps.specs.Auditor.{NeverEarly}
+use Rattle.steps.proofs.Accepted.{asked}
+use Rattle.steps.proofs.Demand3.{demand-3}
+use Rattle.steps.proofs.Naming.{written-named}
+use Rattle.steps.proofs.Reading.{reads-plain}
+
+module _ (file cells schedule : List ℕ) (accepted : runAnswer file cells schedule .number ≡ 0) where
+  -- the flow's tasks under their numbers from 1, with 01's operations
+  abbrev flow : Setting
+  flow = settingOf (flowOf file)
+
+  abbrev workers : ℕ
+  workers = flowOf file .workers
+
+  pub holds : Demand3 flow workers cells schedule
+  holds = demand-3 flow workers cells schedule (asked file cells schedule accepted)
+
+  -- a. no operation, made at any point of any schedule, reads or writes a cell that its task didn't declare so
+  pub only-declared : OnlyDeclared flow (history flow cells schedule)
+  only-declared = holds .declared
+
+  -- b. where two tasks name one cell and at least one declares it written, no operation of the later stands in the history before all of the earlier
+  pub in-order : InOrder flow (history flow cells schedule)
+  in-order = holds .in-order
+
+  -- c. while a worker has tasks left, there is a worker whose step, if named next, advances
+  pub progress : Progress flow workers (run flow cells schedule .machine)
+  progress = holds .progress
+
+  -- d. the advancing steps never exceed the total worked out from the flow alone, and the run has finished exactly when they equal it
+  pub total : Total flow workers cells schedule
+  total = holds .total
+
+  -- e. when it has finished, every cell holds what the plain run gives from the same start
+  pub values : Values flow workers cells schedule
+  values = holds .values
+
+  -- the auditor's question: swap stands before drive in the list, swap declares a cell written, and drive names it. In no order of work does drive
+  -- make an operation before swap's last, and drive finds in the cell what the plain run has there
+  pub never-early : (swap drive cell : ℕ) → 1 ≤ swap → swap < drive → drive ≤ length (flowOf file .tasks)
+      → declaresWritten (numbered flow swap) cell ≡ true
+      → namesCell (numbered flow drive) cell ≡ true
+      → NeverEarly flow cells schedule swap drive cell
+  never-early swap drive cell some before inside written named =
+      record {
+        swapped-first = in-order swap drive cell some before inside
+            (record {
+              one-names = written-named (numbered flow swap) cell written;
+              other-names = named;
+              written = ap (λ (b : Bool). b || declaresWritten (numbered flow drive) cell) written;
+            });
+        reads-as-plain = λ w index e. reads-plain flow workers cells schedule (asked file cells schedule accepted) w drive index cell e named;
+      }
