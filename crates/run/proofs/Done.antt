@@ -3,19 +3,20 @@
 use mathlib.Core.Path.{_≡_, refl, sym, ap, _∙_}
 use mathlib.Core.Bool.{Bool, true, false, cond, _&&_, _||_}
 use mathlib.Core.List.{List, [], _∷_}
-use Prim.Native.Nat.{ℕ, zero, suc, _+_, _<_, _≤_}
+use Prim.Native.Nat.{ℕ, zero, suc, _+_, _-_, _<_, _≤_}
 use native.Mathlib.Omega.{arith}
 use borrow.Author.Tests.{eqb-true, le-leb, lt-leb}
 use lib.ListN.{length, getD, drop}
+use lib.Seq.{getD-take, getD-drop}
 use lib.Dec.{eqb, leb, ltb}
 use Rattle.layout.specs.Flow.{Access, Task}
 use Rattle.layout.specs.Row.{accessAt, taskOf}
-use Rattle.layout.specs.File.{rowAt}
+use Rattle.layout.specs.File.{rowStart, rowAt}
 use Rattle.layout.proofs.Modes.{each-drop, each-drop-all}
 use Rattle.steps.specs.Machine.{Place}
 use Rattle.steps.specs.Step.{writes, waits}
 use Rattle.steps.specs.Run.{doneAfter, isDone, doneFrom}
-use Rattle.machine.specs.Arrays.{width, widthBefore, widthOf, madeAt, madeIn, placeOf, Stands, Standing, tasksIn}
+use Rattle.machine.specs.Arrays.{width, widthBefore, widthOf, madeAt, madeIn, placeOf, Stands, Ready, Standing, tasksIn}
 use Rattle.machine.proofs.Places.{as-many-waits, steps-length, width-next, access-count, operation-count}
 
 -- ---- at a stage and an index
@@ -64,6 +65,19 @@ module _ (row : List ℕ) where
 
 -- ---- the tasks of a file
 
+-- the owner stands first in the row
+pub owner-read : (file : List ℕ) (tasks cells index from w : ℕ) → Ready file tasks cells → index < tasks → from ≡ rowStart (index + 1)
+    → w ≡ getD file from 0
+    → (w ≡ getD (rowAt file (index + 1)) 0 0) × (w < 8)
+owner-read file tasks cells index from w ready h e is =
+    let start : ℕ = rowStart (index + 1) in
+    let inside : 0 < start + 48 - start = omega arith in
+    let there : start ≡ start + 0 = omega arith in
+    let same : w ≡ getD (rowAt file (index + 1)) 0 0 =
+    is ∙ ap (λ (k : ℕ). getD file k 0) (e ∙ there) ∙ sym (getD-drop start file 0 0)
+    ∙ sym (getD-take (start + 48 - start) (drop start file) 0 0 inside) in
+    (same, omega (arith, ready .rows (index + 1) (omega arith) (omega arith) .owner-fits))
+
 module _ (file : List ℕ) (tasks : ℕ) (places : List (List ℕ)) (standing : Standing file tasks places) where
   abbrev all : List Task
   all = tasksIn file tasks
@@ -102,12 +116,13 @@ module _ (file : List ℕ) (tasks : ℕ) (places : List (List ℕ)) (standing : 
       go false e = refl
 
   -- one task more
-  pub task-counted : (index w count whole : ℕ) (b : Bool) → index < tasks → w < 8 → w ≡ getD (rowAt file (index + 1)) 0 0
+  pub task-counted : (index w count next whole : ℕ) (b : Bool) → index < tasks → w < 8 → w ≡ getD (rowAt file (index + 1)) 0 0
       → tested index w ≡ b
+      → next ≡ count + cond b 1 0
       → whole ≡ count + doneFrom standsAt index (drop index all)
-      → whole ≡ count + cond b 1 0 + doneFrom standsAt (index + 1) (drop (index + 1) all)
+      → whole ≡ next + doneFrom standsAt (index + 1) (drop (index + 1) all)
   unfolding doneFrom taskOf
-  task-counted index w count whole b h l owner t e =
+  task-counted index w count next whole b h l owner t n e =
       let here : doneFrom standsAt index (drop index all) ≡ cond b 1 0 + doneFrom standsAt (index + 1) (drop (index + 1) all) =
       ap (doneFrom standsAt index) (each-drop tasks (λ i. taskOf (rowAt file (i + 1))) index h)
       ∙ ap (λ (v : ℕ). cond (isDone (taskOf (rowAt file (index + 1))) index (standsAt v)) 1 0 + doneFrom standsAt (index + 1) (drop (index + 1) all)) (sym owner)

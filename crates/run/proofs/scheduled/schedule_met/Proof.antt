@@ -1,4 +1,4 @@
-use mathlib.Core.Path.{_≡_, refl, sym, ap}
+use mathlib.Core.Path.{_≡_, refl, sym, ap, _∙_}
 use mathlib.Core.Bool.{Bool}
 use mathlib.Core.List.{List}
 use Prim.Native.Nat.{ℕ, _-_, _≤_, _<_}
@@ -61,7 +61,7 @@ returns c =
     ap answerOf
     (refused (number (a .schedule .now) (a .workers)) _ (c .before .before .before .before .before .before .loop .i) (length (a .schedule .now))
     (c .before .before .before .before .before .before .loop .inv .1) 14 (search needs)
-    (no-worker (a .schedule .now) (a .workers) (c .before .before .before .before .before .before .loop .i) (search needs)) (λ e. omega arith))
+    (no-worker (a .schedule .now) (a .workers) (c .before .before .before .before .before .before .loop .i) (omega (arith, (c .before .wide .ensures .0 ∙ ap (λ (k : ℕ). getD (a .schedule .now) k 0) (c .before .before .before .offset2 .ensures))))) (λ e. omega arith))
 
 -- src/scheduled.rt:30:9
 add-i : tie.Need-add-i Inv-loop μ-loop
@@ -78,7 +78,7 @@ loop-again c =
       search needs,
       passed (number (a .schedule .now) (a .workers)) _ (c .before .before .before .before .before .before .loop .i) (length (a .schedule .now))
           (c .before .before .before .before .before .before .loop .inv .1) 0 (search needs)
-          (some-worker (a .schedule .now) (a .workers) (c .before .before .before .before .before .before .loop .i) (search needs)) refl,
+          (some-worker (a .schedule .now) (a .workers) (c .before .before .before .before .before .before .loop .i) (omega (arith, (c .before .wide .ensures .0 ∙ ap (λ (k : ℕ). getD (a .schedule .now) k 0) (c .before .before .before .offset2 .ensures))))) refl,
     )
 
 -- src/scheduled.rt:18:1

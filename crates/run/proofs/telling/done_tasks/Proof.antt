@@ -1,4 +1,6 @@
 use mathlib.Core.Path.{_≡_}
+use mathlib.Core.Bool.{true, false}
+use mathlib.Core.Logic.{⊎-elim}
 use mathlib.Core.List.{List, []}
 use Prim.Native.Nat.{ℕ, _+_, _-_, _≤_}
 use native.Mathlib.Omega.{arith}
@@ -7,7 +9,7 @@ use lib.ListN.{drop, getD}
 use Rattle.steps.specs.Machine.{Place}
 use Rattle.steps.specs.Run.{doneFrom}
 use Rattle.machine.specs.Arrays.{placeOf, tasksIn}
-use Rattle.run.proofs.Done.{task-counted, all-counted}
+use Rattle.run.proofs.Done.{owner-read, task-counted, all-counted}
 use Rattle.run.proofs.telling.done_tasks.Statement.{statement}
 use Rattle.run.proofs.telling.done_tasks.Tie as tie
 use Rattle.run.proofs.telling.done_tasks.Reads as reads
@@ -51,7 +53,9 @@ mul-passed c = search needs
 
 -- src/telling.rt:22:22
 index-1-passed : tie.Need-index-1-passed Inv-loop μ-loop
-index-1-passed c = search needs
+index-1-passed c =
+    let a = c .before .before .before .before .before .before .args in
+    owner-read (a .file .now) (a .tasks) (a .cells) (c .before .before .before .before .loop .index) (c .before .before .start .result) (c .index .result) (c .before .before .before .before .before .before .pre .0) (c .before .before .before .loop-test .taken) (c .before .before .start .ensures) (c .index .ensures .0) .1
 
 -- src/telling.rt:22:22
 index-2-passed : tie.Need-index-2-passed Inv-loop μ-loop
@@ -63,7 +67,9 @@ mul-stage c = search needs
 
 -- src/telling.rt:23:21
 index-1-stage : tie.Need-index-1-stage Inv-loop μ-loop
-index-1-stage c = search needs
+index-1-stage c =
+    let a = c .before .before .before .before .before .before .before .args in
+    owner-read (a .file .now) (a .tasks) (a .cells) (c .before .before .before .before .before .loop .index) (c .before .before .before .start .result) (c .before .index .result) (c .before .before .before .before .before .before .before .pre .0) (c .before .before .before .before .loop-test .taken) (c .before .before .before .start .ensures) (c .before .index .ensures .0) .1
 
 -- src/telling.rt:23:21
 index-2-stage : tie.Need-index-2-stage Inv-loop μ-loop
@@ -75,15 +81,29 @@ add-done c = search needs
 
 -- src/telling.rt:27:9
 add-index : tie.Need-add-index Inv-loop μ-loop
-add-index c = ?
+add-index c = search needs
 
 -- src/telling.rt:20:5
 loop-less : tie.Need-loop-less Inv-loop μ-loop
-loop-less c = ?
+loop-less c = search needs
 
 -- src/telling.rt:20:5
 loop-again : tie.Need-loop-again Inv-loop μ-loop
-loop-again c = ?
+loop-again c =
+    let a = c .before .before .before .before .before .before .before .before .before .args in
+    let owner = owner-read (a .file .now) (a .tasks) (a .cells) (c .before .before .before .before .before .before .before .loop .index) (c .before .before .before .before .before .start .result) (c .before .before .before .index .result) (c .before .before .before .before .before .before .before .before .before .pre .0) (c .before .before .before .before .before .before .loop-test .taken) (c .before .before .before .before .before .start .ensures) (c .before .before .before .index .ensures .0) in
+    ⊎-elim
+    (λ w. (
+      omega arith,
+      search needs,
+      task-counted (a .file .now) (a .tasks) (a .places .now) (c .before .before .before .before .before .before .before .before .before .pre .1) (c .before .before .before .before .before .before .before .loop .index) (c .before .before .before .index .result) (c .before .before .before .before .before .before .before .loop .done) (c .if1 .done) _ true (c .before .before .before .before .before .before .loop-test .taken) (owner .1) (owner .0) (w .0 .taken) (omega arith) (c .before .before .before .before .before .before .before .loop .inv .2),
+    ))
+    (λ w. (
+      omega arith,
+      search needs,
+      task-counted (a .file .now) (a .tasks) (a .places .now) (c .before .before .before .before .before .before .before .before .before .pre .1) (c .before .before .before .before .before .before .before .loop .index) (c .before .before .before .index .result) (c .before .before .before .before .before .before .before .loop .done) (c .if1 .done) _ false (c .before .before .before .before .before .before .loop-test .taken) (owner .1) (owner .0) (w .0 .left) (omega arith) (c .before .before .before .before .before .before .before .loop .inv .2),
+    ))
+    (c .if1 .came)
 
 -- src/telling.rt:14:1
 returns : tie.Need-returns Inv-loop μ-loop
