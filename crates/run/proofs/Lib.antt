@@ -4,3 +4,4 @@ pub mod Done
 pub mod OneByOne
 pub mod Outcomes
 pub mod Told
+pub mod Walking
