@@ -4,4 +4,5 @@ pub mod Done
 pub mod OneByOne
 pub mod Outcomes
 pub mod Told
+pub mod Unique
 pub mod Walking
