@@ -41,14 +41,14 @@ either-way x true = refl
 either-way x false = refl
 
 -- an access has as many waits as ends
-as-many-waits : (access : Access) → length (waits access) ≡ width access
+pub as-many-waits : (access : Access) → length (waits access) ≡ width access
 as-many-waits access = two-or-one (waitWrite (access .cell)) (waitReads (access .cell)) (waitWrite (access .cell)) (writes access)
 
 as-many-ends : (access : Access) → length (ends access) ≡ width access
 as-many-ends access = two-or-one (zeroReads (access .cell)) (postWrite (access .cell)) (endRead (access .cell)) (writes access)
 
 module _ (steps : Access → List Try) (sized : (access : Access) → length (steps access) ≡ width access) where
-  steps-length : (accesses : List Access) → length (ofEach steps accesses) ≡ widthBefore accesses (length accesses)
+  pub steps-length : (accesses : List Access) → length (ofEach steps accesses) ≡ widthBefore accesses (length accesses)
   unfolding ofEach widthBefore
   steps-length [] = refl
   steps-length (access ∷ accesses) =
@@ -67,7 +67,7 @@ module _ (steps : Access → List Try) (sized : (access : Access) → length (st
       ∙ drop-append-add (steps access) (ofEach steps accesses ++ rest) (widthBefore accesses index)
       ∙ steps-drop accesses index none rest (le-of-suc-le-suc h)
 
-width-none : (accesses : List Access) → widthBefore accesses 0 ≡ 0
+pub width-none : (accesses : List Access) → widthBefore accesses 0 ≡ 0
 unfolding widthBefore
 width-none [] = refl
 width-none (access ∷ accesses) = refl
@@ -121,7 +121,7 @@ module _ (row : List ℕ) where
   unfolding taskOf
   access-count = each-length (getD row 1 0) (accessAt row)
 
-  operation-count : length operations ≡ getD row 2 0
+  pub operation-count : length operations ≡ getD row 2 0
   unfolding taskOf
   operation-count = each-length (getD row 2 0) (operationAt row)
 
@@ -134,7 +134,7 @@ module _ (row : List ℕ) where
   unfolding taskOf
   operation-there index h = each-drop (getD row 2 0) (operationAt row) index h
 
-  width-next : (index : ℕ) (isWrite : Bool) → index < getD row 1 0 → writes (accessAt row index) ≡ isWrite
+  pub width-next : (index : ℕ) (isWrite : Bool) → index < getD row 1 0 → writes (accessAt row index) ≡ isWrite
       → widthBefore accesses (index + 1) ≡ widthBefore accesses index + cond isWrite 2 1
   width-next index isWrite h t =
       let within : index < length accesses = omega (arith, access-count) in

@@ -1,4 +1,8 @@
 -- Laws that the proofs of the runs cite.
 pub mod Accepted
+pub mod Done
 pub mod OneByOne
+pub mod Outcomes
 pub mod Told
+pub mod Unique
+pub mod Walking

@@ -1,4 +1,9 @@
+use mathlib.Core.Path.{_≡_, sym, _∙_}
+use native.Mathlib.Omega.{arith}
 use borrow.Author.Needs.{needs}
+use Rattle.layout.specs.Refusal.{refusal}
+use Rattle.run.proofs.Accepted.{ready}
+use Rattle.run.proofs.Outcomes.{plain-refused, file-refused, cells-refused, plain-done}
 use Rattle.run.proofs.plainly.plain.Statement.{statement}
 use Rattle.run.proofs.plainly.plain.Tie as tie
 use Rattle.run.proofs.plainly.plain.Reads as reads
@@ -13,7 +18,10 @@ check-requires c κs = search needs
 
 -- src/plainly.rt:44:9
 returns : tie.Need-returns
-returns c = ?
+returns c =
+    let a = c .before .before .before .before .before .args in
+    plain-refused (a .file .now) (a .cells .now) (refusal (c .before .before .check .result .number) (c .before .before .check .result .place)) (c .if1 .taken)
+    (file-refused (c .before .before .check .ensures) (a .cells .now) (c .if1 .taken))
 
 -- src/plainly.rt:49:23
 offset-requires : tie.Need-offset-requires
@@ -21,11 +29,17 @@ offset-requires c κs = search needs
 
 -- src/plainly.rt:50:9
 returns-2 : tie.Need-returns-2
-returns-2 c = ?
+returns-2 c =
+    let a = c .before .before .before .before .before .before .before .args in
+    plain-refused (a .file .now) (a .cells .now) (refusal 12 0) (λ none. omega arith)
+    (cells-refused (c .before .before .before .before .check .ensures) (a .cells .now) (c .before .before .if1 .left)
+    (λ e. c .if2 .taken (e ∙ sym (c .before .offset .ensures))))
 
 -- src/plainly.rt:55:5
 plain-tasks-requires : tie.Need-plain-tasks-requires
-plain-tasks-requires c κs = ?
+plain-tasks-requires c κs =
+    ready (c .before .before .before .before .before .check .ensures) (c .before .before .before .if1 .left) _
+    (c .before .if2 .left ∙ c .before .before .offset .ensures)
 
 -- src/plainly.rt:39:1
 same-length : tie.Need-same-length
@@ -33,7 +47,12 @@ same-length c = search needs
 
 -- src/plainly.rt:39:1
 returns-3 : tie.Need-returns-3
-returns-3 c = ?
+returns-3 c =
+    let a = c .before .before .before .before .before .before .before .before .before .before .before .args in
+    plain-done (c .before .before .before .before .before .before .before .before .check .ensures) (a .cells .now)
+    (c .before .before .before .before .before .before .if1 .left) _
+    (c .before .before .before .before .if2 .left ∙ c .before .before .before .before .before .offset .ensures)
+    (c .before .before .plain-tasks .ensures)
 
 pub plain-spec : {M : Type 1} → statement M
 plain-spec =

@@ -1,3 +1,15 @@
+use mathlib.Core.Path.{_≡_, refl, sym, ap, _∙_}
+use mathlib.Core.Bool.{Bool}
+use mathlib.Core.List.{List}
+use Prim.Native.Nat.{ℕ, _-_, _≤_, _<_}
+use native.Mathlib.Omega.{arith}
+use borrow.Author.Needs.{needs}
+use borrow.Author.Tests.{lt-ltb, le-ltb}
+use lib.ListN.{length, getD}
+use lib.Dec.{ltb}
+use Rattle.layout.specs.Refusal.{unless, firstAt}
+use Rattle.file.specs.Answers.{answerOf}
+use Rattle.file.proofs.Places.{begun, passed, refused, done}
 use Rattle.run.proofs.scheduled.schedule_met.Statement.{statement}
 use Rattle.run.proofs.scheduled.schedule_met.Tie as tie
 use Rattle.run.proofs.scheduled.schedule_met.Reads as reads
@@ -5,51 +17,75 @@ use Rattle.run.proofs.scheduled.schedule_met.Lts as lts
 use Rattle.octets.proofs.offset.Reads as offset-reads
 use Rattle.octets.proofs.wide.Reads as wide-reads
 
+-- 14 where the byte at an index names no worker
+abbrev number : List ℕ → ℕ → ℕ → ℕ
+number schedule workers index = unless (ltb (getD schedule index 0) workers) 14
+
+no-worker : (schedule : List ℕ) (workers index : ℕ) → workers ≤ getD schedule index 0 → 14 ≡ number schedule workers index
+no-worker schedule workers index h = ap (λ (b : Bool). unless b 14) (sym (le-ltb (getD schedule index 0) workers h))
+
+some-worker : (schedule : List ℕ) (workers index : ℕ) → getD schedule index 0 < workers → 0 ≡ number schedule workers index
+some-worker schedule workers index h = ap (λ (b : Bool). unless b 14) (sym (lt-ltb (getD schedule index 0) workers h))
+
 abbrev Inv-loop : tie.InvT-loop
-Inv-loop schedule workers i₀ i = ?
+Inv-loop schedule workers i₀ i =
+    (i ≤ length schedule) × (firstAt (number schedule workers) 0 (length schedule) ≡ firstAt (number schedule workers) i (length schedule - i))
 
 abbrev μ-loop : tie.MeasureT-loop
-μ-loop schedule workers i₀ i = ?
+μ-loop schedule workers i₀ i = length schedule - i
 
 -- src/scheduled.rt:23:5
 loop-holds : tie.Need-loop-holds Inv-loop μ-loop
-loop-holds c = ?
+loop-holds c = (search needs, begun _ 0 (length (c .before .args .schedule .now)) _ (search needs))
 
 -- src/scheduled.rt:23:11
 offset-requires : tie.Need-offset-requires Inv-loop μ-loop
-offset-requires c κs = ?
+offset-requires c κs = search needs
 
 -- src/scheduled.rt:24:45
 offset-requires-2 : tie.Need-offset-requires-2 Inv-loop μ-loop
-offset-requires-2 c κs = ?
+offset-requires-2 c κs = search needs
 
 -- src/scheduled.rt:24:36
 shared-slice-read-wide : tie.Need-shared-slice-read-wide Inv-loop μ-loop
-shared-slice-read-wide c = ?
+shared-slice-read-wide c = search needs
 
 -- src/scheduled.rt:24:23
 wide-requires : tie.Need-wide-requires Inv-loop μ-loop
-wide-requires c κs = ?
+wide-requires c κs = search needs
 
 -- src/scheduled.rt:25:13
 returns : tie.Need-returns Inv-loop μ-loop
-returns c = ?
+returns c =
+    let a = c .before .before .before .before .before .before .before .before .args in
+    ap answerOf
+    (refused (number (a .schedule .now) (a .workers)) _ (c .before .before .before .before .before .before .loop .i) (length (a .schedule .now))
+    (c .before .before .before .before .before .before .loop .inv .1) 14 (search needs)
+    (no-worker (a .schedule .now) (a .workers) (c .before .before .before .before .before .before .loop .i) (omega (arith, (c .before .wide .ensures .0 ∙ ap (λ (k : ℕ). getD (a .schedule .now) k 0) (c .before .before .before .offset2 .ensures))))) (λ e. omega arith))
 
 -- src/scheduled.rt:30:9
 add-i : tie.Need-add-i Inv-loop μ-loop
-add-i c = ?
+add-i c = search needs
 
 -- src/scheduled.rt:23:5
 loop-less : tie.Need-loop-less Inv-loop μ-loop
-loop-less c = ?
+loop-less c = search needs
 
 -- src/scheduled.rt:23:5
 loop-again : tie.Need-loop-again Inv-loop μ-loop
-loop-again c = ?
+loop-again c =
+    let a = c .before .before .before .before .before .before .before .before .args in (
+      search needs,
+      passed (number (a .schedule .now) (a .workers)) _ (c .before .before .before .before .before .before .loop .i) (length (a .schedule .now))
+          (c .before .before .before .before .before .before .loop .inv .1) 0 (search needs)
+          (some-worker (a .schedule .now) (a .workers) (c .before .before .before .before .before .before .loop .i) (omega (arith, (c .before .wide .ensures .0 ∙ ap (λ (k : ℕ). getD (a .schedule .now) k 0) (c .before .before .before .offset2 .ensures))))) refl,
+    )
 
 -- src/scheduled.rt:18:1
 returns-2 : tie.Need-returns-2 Inv-loop μ-loop
-returns-2 c = ?
+returns-2 c =
+    let a = c .before .before .before .before .args in
+    ap answerOf (done (number (a .schedule .now) (a .workers)) _ (c .before .before .loop .i) (length (a .schedule .now)) (c .before .before .loop .inv .1) (search needs))
 
 pub schedule-met-spec : {M : Type 1} → statement M
 schedule-met-spec =
