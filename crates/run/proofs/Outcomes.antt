@@ -20,7 +20,7 @@ use Rattle.steps.specs.Operations.{effect}
 use Rattle.steps.specs.Plain.{afterTasks}
 use Rattle.steps.specs.Run.{Run, settingOf, total}
 use Rattle.steps.specs.Answers.{plainAnswer, plainCells, runAnswer, ran, toldOf, runTold, runCells}
-use Rattle.order.proofs.Total.{total-bound}
+use Rattle.steps.proofs.Total.{total-bound}
 use Rattle.file.specs.declared.Answer.{Answer}
 use Rattle.file.specs.declared.CheckAnswer.{CheckAnswer}
 use Rattle.file.specs.Answers.{answerOf}
