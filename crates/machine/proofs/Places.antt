@@ -67,7 +67,7 @@ module _ (steps : Access → List Try) (sized : (access : Access) → length (st
       ∙ drop-append-add (steps access) (ofEach steps accesses ++ rest) (widthBefore accesses index)
       ∙ steps-drop accesses index none rest (le-of-suc-le-suc h)
 
-pub width-none : (accesses : List Access) → widthBefore accesses 0 ≡ 0
+width-none : (accesses : List Access) → widthBefore accesses 0 ≡ 0
 unfolding widthBefore
 width-none [] = refl
 width-none (access ∷ accesses) = refl

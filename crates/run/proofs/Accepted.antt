@@ -7,10 +7,9 @@ use Prim.Native.Nat.{ℕ, _+_, _-_, _<_, _≤_}
 use native.Mathlib.Omega.{arith}
 use lib.ListN.{length}
 use lib.Dec.{eqb}
-use Rattle.layout.specs.Bytes.{at}
 use Rattle.layout.specs.Refusal as Rules
 use Rattle.layout.specs.Refusal.{refusal}
-use Rattle.layout.specs.Row.{taskOf, operationsSound}
+use Rattle.layout.specs.Row.{operationsSound}
 use Rattle.layout.specs.File.{rowAt, tasksOf, workersOf, cellsOf, fileAnswer, flowOf}
 use Rattle.layout.proofs.Lists.{and-both}
 use Rattle.layout.proofs.Modes.{access-cell, operation-cells}

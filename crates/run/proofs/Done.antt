@@ -16,8 +16,8 @@ use Rattle.layout.proofs.Modes.{each-drop, each-drop-all}
 use Rattle.steps.specs.Machine.{Place}
 use Rattle.steps.specs.Step.{writes, waits}
 use Rattle.steps.specs.Run.{doneAfter, isDone, doneFrom}
-use Rattle.machine.specs.Arrays.{width, widthBefore, widthOf, madeAt, madeIn, placeOf, Stands, Ready, Standing, tasksIn}
-use Rattle.machine.proofs.Places.{as-many-waits, steps-length, width-next, access-count, operation-count}
+use Rattle.machine.specs.Arrays.{widthBefore, widthOf, madeAt, madeIn, placeOf, Stands, Ready, Standing, tasksIn}
+use Rattle.machine.proofs.Places.{as-many-waits, steps-length, width-next, operation-count}
 
 -- ---- at a stage and an index
 

@@ -1,6 +1,6 @@
 -- What a run answers and leaves follows from the answer that its rules give: with a refusal every count is 0 and no cell changes, and
 -- with success the counts and the cells are those of the run.
-use mathlib.Core.Path.{_≡_, refl, sym, ap, subst, _∙_}
+use mathlib.Core.Path.{_≡_, sym, ap, subst, _∙_}
 use mathlib.Core.Bool.{Bool, true, false, cond}
 use mathlib.Core.List.{List}
 use Prim.Native.Nat.{ℕ, _+_, _<_, _≤_}

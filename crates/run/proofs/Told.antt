@@ -1,11 +1,10 @@
--- What the loops over workers and tasks tell: a worker that is not past the last task breaks the test of all, and a done task counts one.
-use mathlib.Core.Path.{_≡_, refl, sym, ap, _∙_}
-use mathlib.Core.Bool.{Bool, true, false, cond}
-use mathlib.Core.List.{List, [], _∷_}
+-- What the loop over workers tells: a worker that is not past the last task breaks the test of all, and all pass it where none is left.
+use mathlib.Core.Path.{_≡_, sym, ap}
+use mathlib.Core.Bool.{Bool, true, cond}
+use mathlib.Core.List.{List, []}
 use Prim.Native.Nat.{ℕ, _+_, _<_, _≤_}
-use native.Mathlib.Omega.{arith}
 use borrow.Author.Tests.{le-leb, lt-leb}
-use lib.ListN.{length, getD}
+use lib.ListN.{getD}
 use lib.Dec.{leb}
 use Rattle.layout.specs.Lists.{each, all}
 use Rattle.layout.proofs.Lists.{all-more, all-breaks}

@@ -1,13 +1,13 @@
 -- A run under a schedule, taken byte by byte: the machine that the arrays stand for, run over the bytes left, gives what the whole schedule
 -- gives from the start, since each step of the code is a step of the rules and is counted as they count it.
 use mathlib.Core.Path.{_≡_, refl, sym, ap, subst, fun-ext, _∙_}
-use mathlib.Core.Bool.{Bool, true, false, cond}
+use mathlib.Core.Bool.{cond}
 use mathlib.Core.Logic.{⊎-elim}
 use mathlib.Core.List.{List, [], _∷_}
 use Prim.Native.Nat.{ℕ, zero, suc, _+_, _*_, _<_, _≤_}
 use native.Mathlib.Numerals.{add-one}
 use native.Mathlib.Omega.{arith}
-use lib.ListN.{length, getD, drop, replicate, length-replicate, getD-replicate, drop-of-length-le}
+use lib.ListN.{length, getD, drop, replicate, getD-replicate, drop-of-length-le}
 use lib.Seq.{drop-cons}
 use lib.Dec.{leb}
 use types.Run.{OneOf}
@@ -17,7 +17,7 @@ use Rattle.layout.specs.Flow.{Task}
 use Rattle.layout.specs.Row.{taskOf}
 use Rattle.layout.specs.File.{rowAt}
 use Rattle.layout.proofs.Lists.{each-length}
-use Rattle.steps.specs.Machine.{Counter, Place, Machine, counter, place, fresh}
+use Rattle.steps.specs.Machine.{Machine, place, fresh}
 use Rattle.steps.specs.Step.{Setting, Stepped, step}
 use Rattle.steps.specs.Step as Rules
 use Rattle.steps.specs.Run.{Run, counted, runFrom, run, doneTasks, finished}
@@ -25,7 +25,7 @@ use Rattle.machine.specs.declared.Outcome.{Outcome}
 use Rattle.machine.specs.declared.Outcome.the-variants.{Advanced, PastLast, WriteDiffers, ReadsDiffer}
 use Rattle.machine.proofs.Outcome.{the-type}
 use Rattle.machine.specs.Outcomes.{outcomeOf}
-use Rattle.machine.specs.Arrays.{counterOf, counterAt, madeIn, placeOf, Arrays, arrays, machineOf, Stands, Shape, Ready, Standing, ReadsAtMost, Sound, tasksIn, settingIn, StepDone}
+use Rattle.machine.specs.Arrays.{counterOf, counterAt, placeOf, Arrays, arrays, machineOf, Stands, Ready, ReadsAtMost, Sound, tasksIn, settingIn, StepDone}
 use Rattle.machine.proofs.Places.{none-made}
 use Rattle.machine.proofs.Growth.{more-reads, file-step-reads}
 use Rattle.run.specs.Promises.{Walked}

@@ -1,4 +1,5 @@
-use mathlib.Core.Path.{_≡_, sym, _∙_}
+-- `plainly::plain` meets its contract: the check's refusal is passed on, then the number of cells is asked for, and the tasks of an accepted file leave the cells that the plain run gives.
+use mathlib.Core.Path.{sym, _∙_}
 use native.Mathlib.Omega.{arith}
 use borrow.Author.Needs.{needs}
 use Rattle.layout.specs.Refusal.{refusal}
@@ -6,28 +7,19 @@ use Rattle.run.proofs.Accepted.{ready}
 use Rattle.run.proofs.Outcomes.{plain-refused, file-refused, cells-refused, plain-done}
 use Rattle.run.proofs.plainly.plain.Statement.{statement}
 use Rattle.run.proofs.plainly.plain.Tie as tie
-use Rattle.run.proofs.plainly.plain.Reads as reads
-use Rattle.run.proofs.plainly.plain.Lts as lts
-use Rattle.file.proofs.check.Reads as check-reads
-use Rattle.octets.proofs.offset.Reads as offset-reads
-use Rattle.run.proofs.plainly.plain_tasks.Reads as plain-tasks-reads
 
--- src/plainly.rt:42:9
 check-requires : tie.Need-check-requires
 check-requires c κs = search needs
 
--- src/plainly.rt:44:9
 returns : tie.Need-returns
 returns c =
     let a = c .before .before .before .before .before .args in
     plain-refused (a .file .now) (a .cells .now) (refusal (c .before .before .check .result .number) (c .before .before .check .result .place)) (c .if1 .taken)
     (file-refused (c .before .before .check .ensures) (a .cells .now) (c .if1 .taken))
 
--- src/plainly.rt:49:23
 offset-requires : tie.Need-offset-requires
 offset-requires c κs = search needs
 
--- src/plainly.rt:50:9
 returns-2 : tie.Need-returns-2
 returns-2 c =
     let a = c .before .before .before .before .before .before .before .args in
@@ -35,17 +27,14 @@ returns-2 c =
     (cells-refused (c .before .before .before .before .check .ensures) (a .cells .now) (c .before .before .if1 .left)
     (λ e. c .if2 .taken (e ∙ sym (c .before .offset .ensures))))
 
--- src/plainly.rt:55:5
 plain-tasks-requires : tie.Need-plain-tasks-requires
 plain-tasks-requires c κs =
     ready (c .before .before .before .before .before .check .ensures) (c .before .before .before .if1 .left) _
     (c .before .if2 .left ∙ c .before .before .offset .ensures)
 
--- src/plainly.rt:39:1
 same-length : tie.Need-same-length
 same-length c = search needs
 
--- src/plainly.rt:39:1
 returns-3 : tie.Need-returns-3
 returns-3 c =
     let a = c .before .before .before .before .before .before .before .before .before .before .before .args in

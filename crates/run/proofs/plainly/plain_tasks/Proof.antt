@@ -3,9 +3,8 @@
 use mathlib.Core.Path.{_≡_, ap, sym, _∙_}
 use mathlib.Core.List.{List}
 use Prim.Native.Nat.{ℕ, _+_, _≤_, _-_}
-use native.Mathlib.Omega.{arith}
 use borrow.Author.Needs.{needs}
-use lib.ListN.{length, drop, getD}
+use lib.ListN.{length, drop}
 use Rattle.layout.specs.Row.{taskOf}
 use Rattle.layout.specs.File.{rowAt}
 use Rattle.steps.specs.Operations.{effect}

@@ -1,3 +1,4 @@
+-- `scheduled::run` meets its contract: the refusals are asked for in their order, and an accepted schedule's steps give the counts and the cells.
 use mathlib.Core.Path.{_≡_, sym, _∙_}
 use native.Mathlib.Omega.{arith}
 use borrow.Author.Needs.{needs}
@@ -7,27 +8,17 @@ use Rattle.run.proofs.Accepted.{ready, few-workers}
 use Rattle.run.proofs.Outcomes.{file-refused, cells-refused, plain-passed-on, run-refused, too-long, names-answer, names, run-done}
 use Rattle.run.proofs.scheduled.run.Statement.{statement}
 use Rattle.run.proofs.scheduled.run.Tie as tie
-use Rattle.run.proofs.scheduled.run.Reads as reads
-use Rattle.run.proofs.scheduled.run.Lts as lts
-use Rattle.file.proofs.check.Reads as check-reads
-use Rattle.octets.proofs.offset.Reads as offset-reads
-use Rattle.run.proofs.RunAnswer.refused.Reads as refused-reads
-use Rattle.run.proofs.scheduled.schedule_met.Reads as schedule-met-reads
-use Rattle.run.proofs.scheduled.walk.Reads as walk-reads
 
 -- the cells are as many as the flow's
 sized : (c : tie.Else2) → length (c .before .before .before .before .before .before .before .before .args .cells .now) ≡ c .before .before .before .before .check .result .cells
 sized c = c .if2 .left ∙ c .before .offset .ensures
 
--- src/scheduled.rt:84:9
 check-requires : tie.Need-check-requires
 check-requires c κs = search needs
 
--- src/scheduled.rt:86:9
 refused-requires : tie.Need-refused-requires
 refused-requires c κs = search needs
 
--- src/scheduled.rt:86:9
 returns : tie.Need-returns
 returns c =
     let a = c .before .before .before .before .before .before .before .args in
@@ -38,15 +29,12 @@ returns c =
     (plain-passed-on (a .file .now) (a .cells .now) (a .schedule .now) answer some (file-refused (met .ensures) (a .cells .now) some))
     (c .refused .ensures)
 
--- src/scheduled.rt:88:23
 offset-requires : tie.Need-offset-requires
 offset-requires c κs = search needs
 
--- src/scheduled.rt:89:9
 refused-requires-2 : tie.Need-refused-requires-2
 refused-requires-2 c κs = search needs
 
--- src/scheduled.rt:89:9
 returns-2 : tie.Need-returns-2
 returns-2 c =
     let a = c .before .before .before .before .before .before .before .before .before .args in
@@ -55,11 +43,9 @@ returns-2 c =
     (cells-refused (c .before .before .before .before .before .check .ensures) (a .cells .now) (c .before .before .before .if1 .left) (λ e. c .before .if2 .taken (e ∙ sym (c .before .before .offset .ensures)))))
     (c .refused2 .ensures)
 
--- src/scheduled.rt:92:9
 refused-requires-3 : tie.Need-refused-requires-3
 refused-requires-3 c κs = search needs
 
--- src/scheduled.rt:92:9
 returns-3 : tie.Need-returns-3
 returns-3 c =
     let a = c .before .before .before .before .before .before .before .before .before .before .args in
@@ -67,15 +53,12 @@ returns-3 c =
     (too-long (c .before .before .before .before .before .before .check .ensures) (c .before .before .before .before .if1 .left) (a .cells .now) (sized (c .before .before)) (a .schedule .now) (c .before .if3 .taken))
     (c .refused3 .ensures)
 
--- src/scheduled.rt:94:9
 schedule-met-requires : tie.Need-schedule-met-requires
 schedule-met-requires c κs = search needs
 
--- src/scheduled.rt:96:9
 refused-requires-4 : tie.Need-refused-requires-4
 refused-requires-4 c κs = search needs
 
--- src/scheduled.rt:96:9
 returns-4 : tie.Need-returns-4
 returns-4 c =
     let a = c .before .before .before .before .before .before .before .before .before .before .before .before .before .args in
@@ -85,7 +68,6 @@ returns-4 c =
     (names-answer (c .before .before .before .before .before .before .before .before .before .check .ensures) (c .before .before .before .before .before .before .before .if1 .left) (a .cells .now) (sized (c .before .before .before .before .before)) (a .schedule .now) (c .before .before .before .before .if3 .left) (named .ensures))
     (c .refused4 .ensures)
 
--- src/scheduled.rt:98:5
 walk-requires : tie.Need-walk-requires
 walk-requires c κs =
     let a = c .before .before .before .before .before .before .before .before .before .before .before .before .before .args in
@@ -96,11 +78,9 @@ walk-requires c κs =
       names promised none (a .cells .now) (sized (c .before .before .before .before .before)) (a .schedule .now) short (c .before .before .before .schedule-met .ensures) (c .before .if4 .left),
     )
 
--- src/scheduled.rt:81:1
 same-length : tie.Need-same-length
 same-length c = search needs
 
--- src/scheduled.rt:81:1
 returns-5 : tie.Need-returns-5
 returns-5 c =
     let a = c .before .before .before .before .before .before .before .before .before .before .before .before .before .before .before .before .args in

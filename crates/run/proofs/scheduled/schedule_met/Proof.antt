@@ -1,3 +1,4 @@
+-- `scheduled::schedule_met` meets its contract. The invariant: no byte passed is refused, so the whole answer is that of the bytes left.
 use mathlib.Core.Path.{_≡_, refl, sym, ap, _∙_}
 use mathlib.Core.Bool.{Bool}
 use mathlib.Core.List.{List}
@@ -12,10 +13,6 @@ use Rattle.file.specs.Answers.{answerOf}
 use Rattle.file.proofs.Places.{begun, passed, refused, done}
 use Rattle.run.proofs.scheduled.schedule_met.Statement.{statement}
 use Rattle.run.proofs.scheduled.schedule_met.Tie as tie
-use Rattle.run.proofs.scheduled.schedule_met.Reads as reads
-use Rattle.run.proofs.scheduled.schedule_met.Lts as lts
-use Rattle.octets.proofs.offset.Reads as offset-reads
-use Rattle.octets.proofs.wide.Reads as wide-reads
 
 -- 14 where the byte at an index names no worker
 abbrev number : List ℕ → ℕ → ℕ → ℕ
@@ -34,27 +31,21 @@ Inv-loop schedule workers i₀ i =
 abbrev μ-loop : tie.MeasureT-loop
 μ-loop schedule workers i₀ i = length schedule - i
 
--- src/scheduled.rt:23:5
 loop-holds : tie.Need-loop-holds Inv-loop μ-loop
 loop-holds c = (search needs, begun _ 0 (length (c .before .args .schedule .now)) _ (search needs))
 
--- src/scheduled.rt:23:11
 offset-requires : tie.Need-offset-requires Inv-loop μ-loop
 offset-requires c κs = search needs
 
--- src/scheduled.rt:24:45
 offset-requires-2 : tie.Need-offset-requires-2 Inv-loop μ-loop
 offset-requires-2 c κs = search needs
 
--- src/scheduled.rt:24:36
 shared-slice-read-wide : tie.Need-shared-slice-read-wide Inv-loop μ-loop
 shared-slice-read-wide c = search needs
 
--- src/scheduled.rt:24:23
 wide-requires : tie.Need-wide-requires Inv-loop μ-loop
 wide-requires c κs = search needs
 
--- src/scheduled.rt:25:13
 returns : tie.Need-returns Inv-loop μ-loop
 returns c =
     let a = c .before .before .before .before .before .before .before .before .args in
@@ -63,15 +54,12 @@ returns c =
     (c .before .before .before .before .before .before .loop .inv .1) 14 (search needs)
     (no-worker (a .schedule .now) (a .workers) (c .before .before .before .before .before .before .loop .i) (omega (arith, (c .before .wide .ensures .0 ∙ ap (λ (k : ℕ). getD (a .schedule .now) k 0) (c .before .before .before .offset2 .ensures))))) (λ e. omega arith))
 
--- src/scheduled.rt:30:9
 add-i : tie.Need-add-i Inv-loop μ-loop
 add-i c = search needs
 
--- src/scheduled.rt:23:5
 loop-less : tie.Need-loop-less Inv-loop μ-loop
 loop-less c = search needs
 
--- src/scheduled.rt:23:5
 loop-again : tie.Need-loop-again Inv-loop μ-loop
 loop-again c =
     let a = c .before .before .before .before .before .before .before .before .args in (
@@ -81,7 +69,6 @@ loop-again c =
           (some-worker (a .schedule .now) (a .workers) (c .before .before .before .before .before .before .loop .i) (omega (arith, (c .before .wide .ensures .0 ∙ ap (λ (k : ℕ). getD (a .schedule .now) k 0) (c .before .before .before .offset2 .ensures))))) refl,
     )
 
--- src/scheduled.rt:18:1
 returns-2 : tie.Need-returns-2 Inv-loop μ-loop
 returns-2 c =
     let a = c .before .before .before .before .args in

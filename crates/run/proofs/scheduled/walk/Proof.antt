@@ -1,19 +1,13 @@
+-- `scheduled::walk` meets its contract. The invariant: the machine that the arrays stand for, run over the bytes left, gives what the whole schedule gives from a fresh start.
 use mathlib.Core.Path.{_≡_}
 use mathlib.Core.Logic.{⊎-elim}
-use Prim.Native.Nat.{ℕ, _-_, _≤_}
-use native.Mathlib.Omega.{arith}
+use Prim.Native.Nat.{_-_, _≤_}
 use borrow.Author.Needs.{needs}
 use lib.ListN.{length}
-use Rattle.machine.specs.Arrays.{arrays}
+use Rattle.machine.specs.Arrays.{Arrays, arrays}
 use Rattle.run.proofs.Walking.{Walking, walk-begun, step-ready, advance-walked, hold-walked, walk-ended}
 use Rattle.run.proofs.scheduled.walk.Statement.{statement}
 use Rattle.run.proofs.scheduled.walk.Tie as tie
-use Rattle.run.proofs.scheduled.walk.Reads as reads
-use Rattle.run.proofs.scheduled.walk.Lts as lts
-use Rattle.machine.proofs.stepping.step.Reads as step-reads
-use Rattle.octets.proofs.index.Reads as index-reads
-use Rattle.run.proofs.telling.all_past.Reads as all-past-reads
-use Rattle.run.proofs.telling.done_tasks.Reads as done-tasks-reads
 
 abbrev Inv-loop : tie.InvT-loop
 Inv-loop file tasks workers cells₀ schedule shared₀ private₀ places₀ advanced₀ held₀ i₀ cells shared private places advanced held i =
@@ -23,21 +17,23 @@ Inv-loop file tasks workers cells₀ schedule shared₀ private₀ places₀ adv
 abbrev μ-loop : tie.MeasureT-loop
 μ-loop file tasks workers cells₀ schedule shared₀ private₀ places₀ advanced₀ held₀ i₀ cells shared private places advanced held i = length schedule - i
 
--- src/scheduled.rt:50:5
+-- what a step leaves
+abbrev after : tie.After-step Inv-loop μ-loop → Arrays
+after c =
+    let left = c .step .last .1 .1 .1 in
+    arrays (left .0) (left .1 .0) (left .1 .1 .0) (left .1 .1 .1 .0)
+
 loop-holds : tie.Need-loop-holds Inv-loop μ-loop
 loop-holds c =
     let a = c .before .before .before .args in
     (search needs, search needs, walk-begun (a .file .now) (a .tasks) (a .cells .now) (a .schedule .now) (c .before .before .before .pre .0 .0))
 
--- src/scheduled.rt:51:31
 shared-slice-read-index : tie.Need-shared-slice-read-index Inv-loop μ-loop
 shared-slice-read-index c = search needs
 
--- src/scheduled.rt:51:13
 index-requires : tie.Need-index-requires Inv-loop μ-loop
 index-requires c κs = search needs
 
--- src/scheduled.rt:52:13
 step-requires : tie.Need-step-requires Inv-loop μ-loop
 step-requires c κs =
     let start = c .before .before .before .before .before .before .before .before .before .before .before in
@@ -45,58 +41,45 @@ step-requires c κs =
     step-ready (a .file .now) (a .tasks) (c .before .before .before .before .before .before .before .loop .inv .2) (c .before .before .before .before .before .before .loop-test .taken) (a .workers) _ (start .pre .0 .1) (start .pre .0 .2) (start .pre .1)
     (c .before .before .before .before .index .ensures .0)
 
--- src/scheduled.rt:62:13
 enum-told : tie.Need-enum-told Inv-loop μ-loop
 enum-told c = search needs
 
--- src/scheduled.rt:62:13
 add-advanced : tie.Need-add-advanced Inv-loop μ-loop
 add-advanced c = search needs
 
--- src/scheduled.rt:64:13
 add-held : tie.Need-add-held Inv-loop μ-loop
 add-held c = search needs
 
--- src/scheduled.rt:66:9
 add-i : tie.Need-add-i Inv-loop μ-loop
 add-i c = search needs
 
--- src/scheduled.rt:50:5
 loop-less : tie.Need-loop-less Inv-loop μ-loop
 loop-less c = search needs
 
--- src/scheduled.rt:50:5
 loop-again : tie.Need-loop-again Inv-loop μ-loop
 loop-again c =
     let a = c .before .before .before .before .before .before .before .before .before .before .before .before .before .before .before .args in
+    let walking = c .before .before .before .before .before .before .before .before .before .before .before .loop .inv .2 in
+    let more = c .before .before .before .before .before .before .before .before .before .before .loop-test .taken in
+    let v = c .before .before .before .before .before .before .before .before .index .result in
+    let named = c .before .before .before .before .before .before .before .before .index .ensures .0 in
+    let step = c .before .before .before in
     ⊎-elim
-    (λ w. (
-      search needs,
-      search needs,
-      advance-walked (a .file .now) (a .tasks) (c .before .before .before .before .before .before .before .before .before .before .before .loop .inv .2) (c .before .before .before .before .before .before .before .before .before .before .loop-test .taken) (c .before .before .before .before .before .before .before .before .index .result) (c .before .before .before .before .before .before .before .before .index .ensures .0) _ (c .before .before .before .step .result) (c .match .advanced) (c .match .held) (w .1 .given .1) (c .before .before .before .step .ensures) (w .2) (w .3),
-    ))
-    (λ w. (
-      search needs,
-      search needs,
-      hold-walked (a .file .now) (a .tasks) (c .before .before .before .before .before .before .before .before .before .before .before .loop .inv .2) (c .before .before .before .before .before .before .before .before .before .before .loop-test .taken) (c .before .before .before .before .before .before .before .before .index .result) (c .before .before .before .before .before .before .before .before .index .ensures .0) _ (c .before .before .before .step .result) (c .match .advanced) (c .match .held) (w .0 .keys2) (c .before .before .before .step .ensures) (w .1) (w .2),
-    ))
+    (λ w. (search needs, search needs, advance-walked (a .file .now) (a .tasks) walking more v named (after step) (step .step .result) (c .match .advanced) (c .match .held) (w .1 .given .1) (step .step .ensures) (w .2) (w .3)))
+    (λ w. (search needs, search needs, hold-walked (a .file .now) (a .tasks) walking more v named (after step) (step .step .result) (c .match .advanced) (c .match .held) (w .0 .keys2) (step .step .ensures) (w .1) (w .2)))
     (c .match .came)
 
--- src/scheduled.rt:68:9
 done-tasks-requires : tie.Need-done-tasks-requires Inv-loop μ-loop
 done-tasks-requires c κs =
     let sound = c .before .before .loop .inv .2 .sound in
     (sound .ready, sound .standing, sound .places-size)
 
--- src/scheduled.rt:69:9
 all-past-requires : tie.Need-all-past-requires Inv-loop μ-loop
 all-past-requires c κs = search needs
 
--- src/scheduled.rt:39:1
 same-length : tie.Need-same-length Inv-loop μ-loop
 same-length c = search needs
 
--- src/scheduled.rt:39:1
 returns : tie.Need-returns Inv-loop μ-loop
 returns c =
     let a = c .before .before .before .before .before .before .before .before .before .args in

@@ -1,3 +1,4 @@
+-- `telling::done_tasks` meets its contract. The invariant: the tasks found done, with those that are done among the tasks left, are all done tasks.
 use mathlib.Core.Path.{_≡_}
 use mathlib.Core.Bool.{true, false}
 use mathlib.Core.Logic.{⊎-elim}
@@ -12,10 +13,6 @@ use Rattle.machine.specs.Arrays.{placeOf, tasksIn}
 use Rattle.run.proofs.Done.{owner-read, task-counted, all-counted}
 use Rattle.run.proofs.telling.done_tasks.Statement.{statement}
 use Rattle.run.proofs.telling.done_tasks.Tie as tie
-use Rattle.run.proofs.telling.done_tasks.Reads as reads
-use Rattle.run.proofs.telling.done_tasks.Lts as lts
-use Rattle.octets.proofs.index.Reads as index-reads
-use Rattle.row.proofs.start.Reads as start-reads
 
 abbrev stands : List ℕ → ℕ → List (List ℕ) → ℕ → Place
 stands file tasks places w = placeOf (tasksIn file tasks) (getD places w [])
@@ -27,67 +24,52 @@ Inv-loop file tasks cells places done₀ index₀ done index =
 abbrev μ-loop : tie.MeasureT-loop
 μ-loop file tasks cells places done₀ index₀ done index = tasks - index
 
--- src/telling.rt:20:5
 loop-holds : tie.Need-loop-holds Inv-loop μ-loop
 loop-holds c = search needs
 
--- src/telling.rt:21:51
 add-start : tie.Need-add-start Inv-loop μ-loop
 add-start c = search needs
 
--- src/telling.rt:21:40
 start-requires : tie.Need-start-requires Inv-loop μ-loop
 start-requires c κs = search needs
 
--- src/telling.rt:21:35
 shared-slice-read-index : tie.Need-shared-slice-read-index Inv-loop μ-loop
 shared-slice-read-index c = search needs
 
--- src/telling.rt:21:13
 index-requires : tie.Need-index-requires Inv-loop μ-loop
 index-requires c κs = search needs
 
--- src/telling.rt:22:22
 mul-passed : tie.Need-mul-passed Inv-loop μ-loop
 mul-passed c = search needs
 
--- src/telling.rt:22:22
 index-1-passed : tie.Need-index-1-passed Inv-loop μ-loop
 index-1-passed c =
     let a = c .before .before .before .before .before .before .args in
     owner-read (a .file .now) (a .tasks) (a .cells) (c .before .before .before .before .loop .index) (c .before .before .start .result) (c .index .result) (c .before .before .before .before .before .before .pre .0) (c .before .before .before .loop-test .taken) (c .before .before .start .ensures) (c .index .ensures .0) .1
 
--- src/telling.rt:22:22
 index-2-passed : tie.Need-index-2-passed Inv-loop μ-loop
 index-2-passed c = search needs
 
--- src/telling.rt:23:21
 mul-stage : tie.Need-mul-stage Inv-loop μ-loop
 mul-stage c = search needs
 
--- src/telling.rt:23:21
 index-1-stage : tie.Need-index-1-stage Inv-loop μ-loop
 index-1-stage c =
     let a = c .before .before .before .before .before .before .before .args in
     owner-read (a .file .now) (a .tasks) (a .cells) (c .before .before .before .before .before .loop .index) (c .before .before .before .start .result) (c .before .index .result) (c .before .before .before .before .before .before .before .pre .0) (c .before .before .before .before .loop-test .taken) (c .before .before .before .start .ensures) (c .before .index .ensures .0) .1
 
--- src/telling.rt:23:21
 index-2-stage : tie.Need-index-2-stage Inv-loop μ-loop
 index-2-stage c = search needs
 
--- src/telling.rt:25:13
 add-done : tie.Need-add-done Inv-loop μ-loop
 add-done c = search needs
 
--- src/telling.rt:27:9
 add-index : tie.Need-add-index Inv-loop μ-loop
 add-index c = search needs
 
--- src/telling.rt:20:5
 loop-less : tie.Need-loop-less Inv-loop μ-loop
 loop-less c = search needs
 
--- src/telling.rt:20:5
 loop-again : tie.Need-loop-again Inv-loop μ-loop
 loop-again c =
     let a = c .before .before .before .before .before .before .before .before .before .args in
@@ -105,7 +87,6 @@ loop-again c =
     ))
     (c .if1 .came)
 
--- src/telling.rt:14:1
 returns : tie.Need-returns Inv-loop μ-loop
 returns c =
     let a = c .before .before .before .args in
