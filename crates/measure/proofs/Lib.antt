@@ -1,3 +1,4 @@
 -- Laws of the total and of the schedule in turn that the proofs of the code cite.
 pub mod Filled
 pub mod Sums
+pub mod Told

@@ -11,6 +11,7 @@ use Rattle.layout.proofs.Modes.{each-drop, each-drop-all}
 use Rattle.layout.specs.Row.{operationAt}
 use Rattle.layout.specs.File.{rowStart, rowAt}
 use Rattle.machine.specs.Arrays.{RowFits, Ready}
+use Rattle.machine.proofs.Rows.{row-fits as fits-there}
 use Rattle.steps.specs.Operations.{Effect, operated}
 use Rattle.steps.specs.Plain.{afterOperations, afterTasks}
 
@@ -25,17 +26,12 @@ can-operate row cells now i count fits h e l =
     let few : getD row 2 0 ≤ 6 = fits .few-operations in
     ((fits .size, omega arith), (omega arith, omega arith))
 
--- the row that a part of the file holds
-pub row-there : (file : List ℕ) (from task : ℕ) → from ≡ rowStart task → take (from + 48 - from) (drop from file) ≡ rowAt file task
-row-there file from task e = ap (λ (k : ℕ). take (k + 48 - k) (drop k file)) e
-
--- it fits where the file is ready
+-- a task's row fits where the file is ready for the cells
 pub row-fits : (file cells now : List ℕ) (tasks done from : ℕ) → Ready file tasks (length cells) → done < tasks
     → from ≡ rowStart (done + 1)
     → length now ≡ length cells
     → RowFits (take (from + 48 - from) (drop from file)) (length now)
-row-fits file cells now tasks done from ready h e l =
-    rw (row-there file from (done + 1) e, l) (ready .rows (done + 1) (omega arith) (omega arith))
+row-fits file cells now tasks done from ready h e l = rw l (fits-there file tasks done from (length cells) ready h e)
 
 module _ (does : Effect) (n : ℕ) where
   pub operation-next : (f : ℕ → Operation) (i : ℕ) (whole cells : List ℕ) → i < n → whole ≡ afterOperations does (drop i (each n f)) cells

@@ -1,26 +1,25 @@
+-- `measure::measure` meets its contract: the check's answer, and the sum over an accepted file's tasks, are what is measured.
+use mathlib.Core.Path.{sym}
+use Rattle.run.proofs.Accepted.{ready, few-workers, cells-are}
+use Rattle.measure.proofs.Told.{measure-refused, measure-done, some-worker}
 use borrow.Author.Needs.{needs}
 use Rattle.measure.proofs.measure.Statement.{statement}
 use Rattle.measure.proofs.measure.Tie as tie
-use Rattle.measure.proofs.measure.Reads as reads
-use Rattle.measure.proofs.measure.Lts as lts
-use Rattle.file.proofs.check.Reads as check-reads
-use Rattle.measure.proofs.tasks_total.Reads as tasks-total-reads
 
--- src/lib.rt:64:9
 check-requires : tie.Need-check-requires
 check-requires c κs = search needs
 
--- src/lib.rt:66:9
 returns : tie.Need-returns
-returns c = ?
+returns c = measure-refused (c .before .before .check .ensures) (c .if1 .taken)
 
--- src/lib.rt:75:9
 tasks-total-requires : tie.Need-tasks-total-requires
-tasks-total-requires c κs = ?
+tasks-total-requires c κs =
+    let promised = c .before .before .check .ensures in
+    let none = c .if1 .left in
+    (ready promised none _ (sym (cells-are promised none)), some-worker promised none, few-workers promised none)
 
--- src/lib.rt:61:1
 returns-2 : tie.Need-returns-2
-returns-2 c = ?
+returns-2 c = measure-done (c .before .before .before .check .ensures) (c .before .if1 .left) _ (c .tasks-total .ensures .0) (c .tasks-total .ensures .1)
 
 pub measure-spec : {M : Type 1} → statement M
 measure-spec = tie.close (tie.spec check-requires returns tasks-total-requires returns-2)

@@ -39,10 +39,12 @@ loop-again : tie.Need-loop-again Inv-loop μ-loop
 unfolding turn each
 loop-again c =
     let a = c .before .before .before .before .args in
-    let at = c .before .before .loop in
-    (search needs, search needs,
-    c .next-turn .ensures ∙ ap (following (a .workers)) (at .inv .2) ∙ ap (turn (a .workers)) (sym (add-one (at .i))),
-    filled-more (turn (a .workers)) (a .schedule .now) (at .schedule) (at .i) (search needs) (at .inv .3) (at .w) (at .inv .2))
+    let at = c .before .before .loop in (
+      search needs,
+      search needs,
+      c .next-turn .ensures ∙ ap (following (a .workers)) (at .inv .2) ∙ ap (turn (a .workers)) (sym (add-one (at .i))),
+      filled-more (turn (a .workers)) (a .schedule .now) (at .schedule) (at .i) (search needs) (at .inv .3) (at .w) (at .inv .2),
+    )
 
 same-length : tie.Need-same-length Inv-loop μ-loop
 same-length c = search needs

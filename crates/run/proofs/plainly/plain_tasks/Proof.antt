@@ -10,7 +10,8 @@ use Rattle.layout.specs.File.{rowAt}
 use Rattle.steps.specs.Operations.{effect}
 use Rattle.steps.specs.Plain.{afterOperations, afterTasks}
 use Rattle.machine.specs.Arrays.{tasksIn}
-use Rattle.run.proofs.OneByOne.{row-there, row-fits, task-next, tasks-end}
+use Rattle.machine.proofs.Rows.{row-there}
+use Rattle.run.proofs.OneByOne.{row-fits, task-next, tasks-end}
 use Rattle.run.proofs.plainly.plain_tasks.Statement.{statement}
 use Rattle.run.proofs.plainly.plain_tasks.Tie as tie
 
