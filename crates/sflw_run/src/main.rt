@@ -2,27 +2,18 @@
 mod say;
 
 use libc::STDIN_FILENO;
+use measure::Measured;
+ghost use Prim.Native.Nat.{_≤_};
+ghost use lib.ListN.{length};
 
-// One byte more than the longest file, so that a longer input is refused for its length.
-const ROOM: usize = 10241;
-
-// Workers times total, at most.
-const STEPS: usize = 46400;
-
-fn main() {
-    let mut input = [0u8; ROOM];
-    let n = io::read_full(STDIN_FILENO, &mut input);
-    let file = &input[..n];
-    let sizes = measure::measure(file);
-    if sizes.number != 0 {
-        say::refused(sizes.number, sizes.place);
-        return;
-    }
+// Runs a flow of these sizes with the workers in turn, and writes what came of it.
+fn in_turn(file: &[u8], sizes: Measured, cells: &mut [u32], schedule: &mut [u8])
+    requires { ⌜ (sizes .workers ≤ 8) × (sizes .total ≤ 5800) × (sizes .cells ≤ 32) ⌝ }
+    requires { ⌜ (32 ≤ length (now cells)) × (65536 ≤ length (now schedule)) ⌝ }
+{
     let steps = octets::offset(sizes.workers * sizes.total);
     let count = octets::offset(sizes.cells);
-    let mut schedule = [0u8; STEPS];
-    measure::in_turn(sizes.workers as u8, &mut schedule[..steps]);
-    let mut cells = [0u32; 32];
+    measure::in_turn(sizes.workers as u8, schedule);
     let told = run::run(file, &mut cells[..count], &schedule[..steps]);
     if told.number != 0 {
         say::refused(told.number, told.place);
@@ -31,4 +22,19 @@ fn main() {
     say::sizes(sizes.tasks, sizes.workers, sizes.cells);
     say::told(told.finished, told.advanced, told.held, told.done);
     say::cells(&cells[..count]);
+}
+
+fn main() {
+    // One byte more than the longest file, so that a longer input is refused for its length.
+    let mut input = [0u8; 10241];
+    let n = io::read_full(STDIN_FILENO, &mut input);
+    let file = &input[..n];
+    let sizes = measure::measure(file);
+    if sizes.number != 0 {
+        say::refused(sizes.number, sizes.place);
+        return;
+    }
+    let mut cells = [0u32; 32];
+    let mut schedule = io::large_buffer();
+    in_turn(file, sizes, &mut cells, &mut schedule);
 }

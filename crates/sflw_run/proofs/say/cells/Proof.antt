@@ -1,60 +1,48 @@
+-- `say::cells` is safe and ends: the index stays below the length.
+use Prim.Native.Nat.{_≤_, _-_}
+use borrow.Author.Needs.{needs}
+use lib.ListN.{length}
 use Rattle.sflw_run.proofs.say.cells.Statement.{statement}
 use Rattle.sflw_run.proofs.say.cells.Tie as tie
-use Rattle.sflw_run.proofs.say.cells.Reads as reads
-use Rattle.sflw_run.proofs.say.cells.Lts as lts
-use Rattle.io.proofs.print_decimal.Reads as print-decimal-reads
-use Rattle.sflw_run.proofs.say.end.Reads as end-reads
-use Rattle.sflw_run.proofs.say.pair.Reads as pair-reads
 
 abbrev Inv-loop : tie.InvT-loop
-Inv-loop values i₀ t3 i = ?
+Inv-loop values i₀ t3 i = i ≤ length values
 
 abbrev μ-loop : tie.MeasureT-loop
-μ-loop values i₀ t3 i = ?
+μ-loop values i₀ t3 i = length values - i
 
--- src/say.rt:38:5
 loop-holds : tie.Need-loop-holds Inv-loop μ-loop
-loop-holds c = ?
+loop-holds c = search needs
 
--- src/say.rt:39:9
 print-decimal-requires : tie.Need-print-decimal-requires Inv-loop μ-loop
-print-decimal-requires c κs = ?
+print-decimal-requires c κs = search needs
 
--- src/say.rt:40:14
 slice-aggregate-pair : tie.Need-slice-aggregate-pair Inv-loop μ-loop
-slice-aggregate-pair c = ?
+slice-aggregate-pair c = search needs
 
--- src/say.rt:40:20
 mul-pair : tie.Need-mul-pair Inv-loop μ-loop
-mul-pair c = ?
+mul-pair c = search needs
 
--- src/say.rt:40:20
 shared-slice-read-pair : tie.Need-shared-slice-read-pair Inv-loop μ-loop
-shared-slice-read-pair c = ?
+shared-slice-read-pair c = search needs
 
--- src/say.rt:40:9
 pair-requires : tie.Need-pair-requires Inv-loop μ-loop
-pair-requires c κs = ?
+pair-requires c κs = search needs
 
--- src/say.rt:41:9
 end-requires : tie.Need-end-requires Inv-loop μ-loop
-end-requires c κs = ?
+end-requires c κs = search needs
 
--- src/say.rt:42:9
 add-i : tie.Need-add-i Inv-loop μ-loop
-add-i c = ?
+add-i c = search needs
 
--- src/say.rt:38:5
 loop-less : tie.Need-loop-less Inv-loop μ-loop
-loop-less c = ?
+loop-less c = search needs
 
--- src/say.rt:38:5
 loop-again : tie.Need-loop-again Inv-loop μ-loop
-loop-again c = ?
+loop-again c = search needs
 
--- src/say.rt:36:1
 returns : tie.Need-returns Inv-loop μ-loop
-returns c = ?
+returns c = search needs
 
 pub cells-spec : {M : Type 1} → statement M
 cells-spec =
