@@ -1,0 +1,34 @@
+// The lines: a case's name, the number and the place answered, the counts of a stepped run, and the cells.
+fn decimal(n: u32) {
+    io::print_decimal(1, n as u64);
+}
+
+// A number after its name.
+fn named(name: &[u8], n: u32) {
+    io::write_all(1, name);
+    decimal(n);
+}
+
+pub(crate) fn answered(name: &[u8], number: u32, place: u32) {
+    io::write_all(1, name);
+    named(b": ", number);
+    named(b" place ", place);
+}
+
+pub(crate) fn counts(advanced: u32, held: u32, done: u32, finished: u32) {
+    named(b" advanced ", advanced);
+    named(b" held ", held);
+    named(b" done ", done);
+    named(b" finished ", finished);
+}
+
+// The cells, and the end of the line.
+pub(crate) fn cells(values: &[u32]) {
+    io::write_all(1, b" cells");
+    let mut i = 0;
+    while i < values.len() {
+        named(b" ", values[i]);
+        i += 1;
+    }
+    io::write_all(1, b"\n");
+}
