@@ -1,0 +1,3 @@
+-- What the row reader answers, and where it stands after its calls.
+pub mod Answers
+pub mod Calls
