@@ -5,7 +5,8 @@ use mathlib.Core.Bool.{Bool, true, false, cond}
 use mathlib.Core.List.{List}
 use Prim.Native.Nat.{ℕ, _+_, _≤_}
 use native.Mathlib.Omega.{arith}
-use borrow.Author.Tests.{ne-eqb}
+use borrow.Author.Tests.{ne-eqb, eqb-true, eqb-false}
+use lib.Dec.{eqb}
 use lib.ListN.{length}
 use Rattle.layout.specs.Flow.{upTo}
 use Rattle.layout.specs.Refusal as Rules
@@ -15,7 +16,7 @@ use Rattle.file.specs.declared.CheckAnswer.{CheckAnswer}
 use Rattle.file.specs.Promises.{CheckPromise}
 use Rattle.file.proofs.Outcomes.{same-answer, accepted, tasks-are, rows-fit}
 use Rattle.rows.specs.declared.Found.the-variants.{Row, End}
-use Rattle.rows.specs.Answers.{statedOf, noRow, given, refusedBy, statedAt}
+use Rattle.rows.specs.Answers.{Stated, statedOf, noRow, given, refusedBy, statedAt}
 use Rattle.rows.proofs.Places.{up-to}
 
 -- ---- by the file alone
@@ -34,6 +35,21 @@ has-row file task h = ap (λ (b : Bool). cond b (statedOf Row (rowAt file task))
 
 pub has-none : (file : List ℕ) (task : ℕ) → upTo (tasksOf file) task ≡ false → given file task ≡ statedOf End noRow
 has-none file task h = ap (λ (b : Bool). cond b (statedOf Row (rowAt file task)) (statedOf End noRow)) h
+
+-- what holds of each of the three answers holds of the one that is given
+pub by-answer : (file : List ℕ) (task : ℕ) (P : Stated → Type 0)
+    → (fileAnswer file .number ≡ 0 → upTo (tasksOf file) task ≡ true → P (statedOf Row (rowAt file task)))
+    → (fileAnswer file .number ≡ 0 → upTo (tasksOf file) task ≡ false → P (statedOf End noRow))
+    → ((fileAnswer file .number ≡ 0 → ⊥) → P (refusedBy (fileAnswer file)))
+    → P (statedAt file task)
+unfolding statedAt
+by-answer file task P row end met = go (eqb (fileAnswer file .number) 0) refl (upTo (tasksOf file) task) refl
+  where
+    go : (taken : Bool) → eqb (fileAnswer file .number) 0 ≡ taken → (there : Bool) → upTo (tasksOf file) task ≡ there
+        → P (cond taken (cond there (statedOf Row (rowAt file task)) (statedOf End noRow)) (refusedBy (fileAnswer file)))
+    go true e true f = row (eqb-true (fileAnswer file .number) 0 e) f
+    go true e false f = end (eqb-true (fileAnswer file .number) 0 e) f
+    go false e there f = met (eqb-false (fileAnswer file .number) 0 e)
 
 -- ---- by the check's answer
 

@@ -3,6 +3,7 @@
 use mathlib.Core.Path.{_≡_, refl, sym, ap, _∙_}
 use mathlib.Core.Bool.{Bool, true, false, cond, _&&_}
 use Prim.Native.Nat.{ℕ, zero, suc, _+_, _≤_, _<_, min}
+use native.Mathlib.Nat.{zero-add, suc-add}
 use native.Mathlib.Omega.{arith}
 use borrow.Author.Tests.{le-leb, lt-leb, leb-true, leb-false}
 use lib.Dec.{leb}
@@ -50,3 +51,9 @@ goes-on-after zero task some most = omega arith
 goes-on-after (suc calls) task some most =
     ap (placeAfter calls) (goes-on task some most) ∙ goes-on-after calls (min (task + 1) 201) (omega arith) (omega arith)
     ∙ (omega arith)
+
+-- to move on by calls and then by more is to move on by both
+pub moves-add : (calls more task : ℕ) → placeAfter (calls + more) task ≡ placeAfter more (placeAfter calls task)
+unfolding placeAfter
+moves-add zero more task = rw zero-add
+moves-add (suc calls) more task = rw suc-add (moves-add calls more (following task))

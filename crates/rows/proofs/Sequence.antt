@@ -1,27 +1,60 @@
 -- The calls of a row reader, one after another. A new reader of an accepted file gives the file's rows in order, which together are
 -- the reader's, and then says the end at every call, however many; of a refused file, every reader gives the check's own refusal at
 -- every call. The lent file stays as it is: it is lent as shared, and a reader that is moved on keeps it.
-use mathlib.Core.Path.{_≡_, refl, sym, ap, _∙_}
-use mathlib.Core.Bool.{Bool, true, false, cond, false≢true}
-use mathlib.Core.List.{List, [], _∷_, _++_}
+use mathlib.Core.Path.{_≡_, refl, sym, ap, ap₂, _∙_}
+use mathlib.Core.Bool.{Bool, true, false, false≢true}
+use mathlib.Core.List.{List, [], _∷_, _++_, map}
 use Prim.Native.Nat.{ℕ, zero, suc, _+_, _≤_, _<_}
 use native.Mathlib.Nat.{zero-add, suc-add}
 use native.Mathlib.Omega.{arith}
-use borrow.Author.Tests.{eqb-true}
-use lib.Dec.{eqb}
 use lib.ListN.{length, getD}
+use denote.Ref.{RefT, now}
 use Rattle.layout.specs.Lists.{each, joined}
 use Rattle.layout.specs.Flow.{mostTasks, upTo}
+use Rattle.layout.specs.Refusal.{success, refusal}
 use Rattle.layout.specs.File.{rowAt, tasksOf, fileAnswer, rowsOf}
 use Rattle.layout.proofs.Lists.{each-at, each-same}
-use Rattle.roundtrip.proofs.Answers.{FileKept, file-keeps}
+use Rattle.roundtrip.proofs.Answers.{FileKept, file-keeps, keeps-file}
 use Rattle.roundtrip.proofs.Pieces.{joined-same}
 use Rattle.roundtrip.proofs.Read.{file-sizes, row-sized}
 use Rattle.rows.specs.declared.Found.the-variants.{Row, End}
-use Rattle.rows.specs.Answers.{Stated, statedOf, noRow, refusedBy, statedAt}
+use Rattle.rows.specs.declared.Fetched.{Fetched}
+use Rattle.rows.specs.declared.Rows.{Rows}
+use Rattle.rows.specs.Answers.{Stated, statedOf, statedBy, noRow, refusedBy, statedAt}
+use Rattle.rows.specs.Promises.{Answered, StandsAt}
 use Rattle.rows.specs.Calls.{following, placeAfter, answersFrom, answers}
 use Rattle.rows.proofs.Places.{up-to, is-up-to, is-past, past, stays-after, goes-on-after}
-use Rattle.rows.proofs.Fetches.{with-refusal, without, has-row, has-none}
+use Rattle.rows.proofs.Fetches.{with-refusal, without, has-row, has-none, by-answer}
+
+-- ---- an answer's number and place are the check's, and success where a row is given or the end is said
+
+pub numbered : (file : List ℕ) (task : ℕ) → refusal (statedAt file task .number) (statedAt file task .place) ≡ fileAnswer file
+numbered file task =
+    let accepts : fileAnswer file .number ≡ 0 → success ≡ fileAnswer file = λ none. sym (keeps-file file (file-keeps file none)) in
+    by-answer file task (λ a. refusal (a .number) (a .place) ≡ fileAnswer file) (λ none there. accepts none) (λ none past. accepts none)
+    (λ some. refl)
+
+-- ---- calls as the contracts allow them: the answer of `next` at a reader, and then the calls of what `moved` makes of it
+
+pub data Called : Rows → List Fetched → Type 0 where
+  no-call : {r : Rows} → Called r []
+  call-then : {r after : Rows} {answer : Fetched} {later : List Fetched} → Answered (now (r .file)) (r .task) answer
+      → StandsAt (r .file) (placeAfter 1 (r .task)) after
+      → Called after later
+      → Called r (answer ∷ later)
+
+-- whatever they allow, the answers are these
+pub called-answers : {r : Rows} {all : List Fetched} → Called r all → map statedBy all ≡ answersFrom (length all) (now (r .file)) (r .task)
+unfolding answersFrom placeAfter
+called-answers no-call = refl
+called-answers {r} (call-then {after} {answer} {later} said stands rest) =
+    ap₂ (λ (first : Stated) (others : List Stated). first ∷ others) said
+    (called-answers rest ∙ (λ i. answersFrom (length later) (now (stands .0 i)) (stands .1 i)))
+
+-- and of a reader that `new` makes, these
+pub new-answers : {file : RefT (List ℕ)} {r : Rows} {all : List Fetched} → StandsAt file 1 r → Called r all
+    → map statedBy all ≡ answers (length all) (now file)
+new-answers {all} stands calls = called-answers calls ∙ (λ i. answersFrom (length all) (now (stands .0 i)) (stands .1 i))
 
 -- ---- each call is answered at the place where the ones before it leave the reader
 
@@ -105,15 +138,11 @@ gives-refusal file some calls task =
 
 says-end : (file : List ℕ) (task : ℕ) → statedAt file task .ended ≡ true
     → (fileAnswer file .number ≡ 0) × (upTo (tasksOf file) task ≡ false)
-unfolding statedAt
-says-end file task h = go (eqb (fileAnswer file .number) 0) refl (upTo (tasksOf file) task) refl h
-  where
-    go : (taken : Bool) → eqb (fileAnswer file .number) 0 ≡ taken → (there : Bool) → upTo (tasksOf file) task ≡ there
-        → cond taken (cond there (statedOf Row (rowAt file task)) (statedOf End noRow)) (refusedBy (fileAnswer file)) .ended ≡ true
-        → (fileAnswer file .number ≡ 0) × (upTo (tasksOf file) task ≡ false)
-    go true e true f g = absurd (false≢true g)
-    go true e false f g = (eqb-true (fileAnswer file .number) 0 e, f)
-    go false e there f g = absurd (false≢true g)
+says-end file task =
+    by-answer file task (λ a. a .ended ≡ true → (fileAnswer file .number ≡ 0) × (upTo (tasksOf file) task ≡ false))
+    (λ none there e. absurd (false≢true e))
+    (λ none past e. (none, past))
+    (λ some e. absurd (false≢true e))
 
 -- from a place that no task of the file has, a reader goes to none
 stays-past : (tasks i task : ℕ) → tasks ≤ 200 → upTo tasks task ≡ false → upTo tasks (placeAfter i task) ≡ false

@@ -10,7 +10,8 @@ use Rattle.rows.specs.declared.Found.{Found}
 use Rattle.rows.specs.declared.Found.the-variants.{Row, End, Refused}
 use Rattle.rows.specs.declared.Fetched.{Fetched}
 use Rattle.rows.specs.declared.Rows.{Rows}
-use Rattle.rows.specs.Answers.{Stated, statedOf, statedBy, statedAt}
+use Rattle.rows.specs.Answers.{Stated, statedOf, statedBy}
+use Rattle.rows.specs.Promises.{Answered, StandsAt}
 use Rattle.rows.specs.Calls.{placeAfter}
 
 -- ---- an answer
@@ -41,7 +42,7 @@ told r s e =
     λ i. record { found = same-found (r .found) (s .found) (r .row) (s .row) e i; row = same-row i }
 
 -- `fetch`, and so `next` at a reader's file and place and `nth` at the place after its calls
-pub fetch-unique : (file : List ℕ) (task : ℕ) (r s : Fetched) → statedBy r ≡ statedAt file task → statedBy s ≡ statedAt file task → r ≡ s
+pub fetch-unique : (file : List ℕ) (task : ℕ) (r s : Fetched) → Answered file task r → Answered file task s → r ≡ s
 fetch-unique file task r s p q = told r s (p ∙ sym q)
 
 -- ---- a place, and a reader
@@ -50,7 +51,5 @@ pub place-unique : (calls task r s : ℕ) → r ≡ placeAfter calls task → s 
 place-unique calls task r s p q = p ∙ sym q
 
 -- `new` at the file lent and 1, `moved` at the reader's file and the place after the calls
-pub reader-unique : (file : RefT (List ℕ)) (task : ℕ) (r s : Rows) → (r .file ≡ file) × (r .task ≡ task)
-    → (s .file ≡ file) × (s .task ≡ task)
-    → r ≡ s
+pub reader-unique : (file : RefT (List ℕ)) (task : ℕ) (r s : Rows) → StandsAt file task r → StandsAt file task s → r ≡ s
 reader-unique file task r s p q = λ i. record { file = (p .0 ∙ sym (q .0)) i; task = (p .1 ∙ sym (q .1)) i }

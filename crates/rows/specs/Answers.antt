@@ -1,6 +1,6 @@
 -- What a row reader answers at its place (01, "Numbers of refusal"): "It gives task 1 first and says the end at every call after
 -- the last; a refused file gives its refusal at every call".
-use mathlib.Core.Bool.{Bool, true, false, not, cond, _&&_}
+use mathlib.Core.Bool.{Bool, true, false, cond}
 use mathlib.Core.List.{List}
 use Prim.Native.Nat.{ℕ}
 use lib.Dec.{eqb}

@@ -3,7 +3,7 @@
 use file::Answer;
 use flow::Flow;
 ghost use mathlib.Core.Path.{_≡_};
-ghost use Rattle.rows.specs.Answers.{statedBy, statedAt};
+ghost use Rattle.rows.specs.Promises.{Answered, StandsAt};
 ghost use Rattle.rows.specs.Calls.{placeAfter};
 
 // What a call finds.
@@ -27,7 +27,7 @@ pub struct Rows<'a> {
 
 // The row of a task: the end where the file has no task of that number, a refusal where the file is refused.
 pub fn fetch(file: &[u8], task: u32) -> Fetched
-    ensures { λ r. ⌜ statedBy r ≡ statedAt (now (file .entry)) task ⌝ }
+    ensures { λ r. ⌜ Answered (now (file .entry)) task r ⌝ }
 {
     let mut row = [0u8; 48];
     let met = file::check(file);
@@ -63,21 +63,21 @@ pub fn place_after(task: u32, calls: u32) -> u32
 
 // A reader of a file, at task 1.
 pub fn new<'a>(file: &'a [u8]) -> Rows<'a>
-    ensures { λ r. ⌜ (r .file ≡ file .entry) × (r .task ≡ 1) ⌝ }
+    ensures { λ r. ⌜ StandsAt (file .entry) 1 r ⌝ }
 {
     Rows { file, task: 1 }
 }
 
 // What the reader answers at its place.
 pub fn next<'a>(rows: Rows<'a>) -> Fetched
-    ensures { λ r. ⌜ statedBy r ≡ statedAt (now (rows .entry .file)) (rows .entry .task) ⌝ }
+    ensures { λ r. ⌜ Answered (now (rows .entry .file)) (rows .entry .task) r ⌝ }
 {
     fetch(rows.file, rows.task)
 }
 
 // The reader after so many calls.
 pub fn moved<'a>(rows: Rows<'a>, calls: u32) -> Rows<'a>
-    ensures { λ r. ⌜ (r .file ≡ rows .entry .file) × (r .task ≡ placeAfter calls (rows .entry .task)) ⌝ }
+    ensures { λ r. ⌜ StandsAt (rows .entry .file) (placeAfter calls (rows .entry .task)) r ⌝ }
 {
     let task = place_after(rows.task, calls);
     Rows {
@@ -88,7 +88,7 @@ pub fn moved<'a>(rows: Rows<'a>, calls: u32) -> Rows<'a>
 
 // What a new reader answers after so many calls. Its parameters are plain, so who calls it needs no walk.
 pub fn nth(file: &[u8], calls: u32) -> Fetched
-    ensures { λ r. ⌜ statedBy r ≡ statedAt (now (file .entry)) (placeAfter calls 1) ⌝ }
+    ensures { λ r. ⌜ Answered (now (file .entry)) (placeAfter calls 1) r ⌝ }
 {
     next(moved(new(file), calls))
 }

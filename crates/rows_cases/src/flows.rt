@@ -1,6 +1,5 @@
 // Flow A's file, and a file of the most tasks, no two of whose rows are the same.
 use flow::Flow;
-ghost use Prim.Native.Nat.{_*_, _≤_};
 ghost use mathlib.Core.Path.{_≡_};
 ghost use lib.ListN.{length};
 

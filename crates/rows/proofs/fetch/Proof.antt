@@ -17,10 +17,13 @@ returns c =
 
 start-requires : tie.Need-start-requires
 start-requires c κs =
-    let fits =
-    row-fits (c .before .before .before .before .check .ensures) (c .before .before .before .before .before .before .args .task)
-    (c .before .before .if1 .left) (c .if2 .taken) in
-    (fits .0, fits .1)
+    omega (
+      arith,
+      row-fits (c .before .before .before .before .check .ensures)
+          (c .before .before .before .before .before .before .args .task)
+          (c .before .before .if1 .left)
+          (c .if2 .taken),
+    )
 
 add-copy : tie.Need-add-copy
 add-copy c = search needs

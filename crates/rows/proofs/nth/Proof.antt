@@ -38,7 +38,8 @@ use denote.Triple.Table.{entered, cited}
 use denote.Triple.Walked.{says, Stays, stay-none, stay-none-slice, walkOf, goes-none, goes-none-slice, Walks, ends-at, walked, walk-meets}
 use denote.Exit.{yes}
 use denote.Triple.Clauses.{ensured, lasts}
-use Rattle.rows.specs.Answers.{Stated, statedBy, statedAt}
+use Rattle.rows.specs.Answers.{statedAt}
+use Rattle.rows.specs.Promises.{Answered, StandsAt}
 use Rattle.rows.specs.Calls.{placeAfter}
 use Rattle.rows.specs.declared.Rows.{Rows}
 use Rattle.rows.specs.declared.Fetched.{Fetched}
@@ -92,8 +93,8 @@ module _ {M : Type 1} (𝓤 : URA M) (H : Heap 𝓤) (A : Atoms 𝓤) (W : Given
   abbrev vals : Vals nth.signature κs
   vals = (v ∷ [], (vint w32 n ∷ [], tt))
 
-  abbrev answer : Stated
-  answer = statedAt (now s) (placeAfter n 1)
+  abbrev Said : Fetched → Type 0
+  Said t = Answered (now s) (placeAfter n 1) t
 
   -- the struct's type as a local of a body has it
   abbrev αᵉ : NamedLft
@@ -119,7 +120,7 @@ module _ {M : Type 1} (𝓤 : URA M) (H : Heap 𝓤) (A : Atoms 𝓤) (W : Given
       nothing ! $ move ! (1 ∷ 0 ∷ []) $ fjoin ! $ move ! (2 ∷ 0 ∷ []) $ use2 W (raw (New 𝓤 H A mem run .pre to-new)) asked-new $ frame ! $ done !
 
   abbrev New-says : Rows → Type 0
-  New-says r = (r .file ≡ s) × (r .task ≡ 1)
+  New-says r = StandsAt s 1 r
 
   new-said : (r : Rows) → ent 𝓤 (ensured 𝓤 H A new.ended (new.clauses 𝓤 H A mem run) κs (s, tt) tt r) (fact 𝓤 (New-says r))
   new-said r = exE 𝓤 _ (λ ws. snd∗ 𝓤 (sem 𝓤 H A (lasts new.ended κs (s, tt) ws)) (fact 𝓤 (New-says r)))
@@ -134,7 +135,7 @@ module _ {M : Type 1} (𝓤 : URA M) (H : Heap 𝓤) (A : Atoms 𝓤) (W : Given
       nothing ! $ owned ! u32 (Is u32) (uint-makes 𝓤 H A W w32) n _ (refl, n-fits) $ fjoin ! $ move ! (1 ∷ 0 ∷ []) $ fjoin ! $ move ! (1 ∷ 0 ∷ []) $ join ! $ frame ! $ done !
 
   abbrev Moved-says : Rows → Rows → Type 0
-  Moved-says r t = (t .file ≡ r .file) × (t .task ≡ placeAfter n (r .task))
+  Moved-says r t = StandsAt (r .file) (placeAfter n (r .task)) t
 
   moved-said : (r t : Rows) → ent 𝓤 (ensured 𝓤 H A moved.ended (moved.clauses 𝓤 H A mem run) κs (r, (n, tt)) tt t) (fact 𝓤 (Moved-says r t))
   moved-said r t = exE 𝓤 _ (λ ws. snd∗ 𝓤 (sem 𝓤 H A (lasts moved.ended κs (r, (n, tt)) ws)) (fact 𝓤 (Moved-says r t)))
@@ -147,16 +148,16 @@ module _ {M : Type 1} (𝓤 : URA M) (H : Heap 𝓤) (A : Atoms 𝓤) (W : Given
   goes-next r u = qed W (‵ (B κs .own r (u ∷ [])) ∷ (‵ (flft κ q) ⊛ ‵ ftrue) ∷ []) ∵ nothing ! $ move ! (1 ∷ 0 ∷ []) $ fjoin ! $ move ! (1 ∷ 0 ∷ []) $ join ! $ frame ! $ done !
 
   abbrev Next-says : Rows → Fetched → Type 0
-  Next-says r t = statedBy t ≡ statedAt (now (r .file)) (r .task)
+  Next-says r t = Answered (now (r .file)) (r .task) t
 
   next-said : (r : Rows) (t : Fetched) → ent 𝓤 (ensured 𝓤 H A next.ended (next.clauses 𝓤 H A mem run) κs (r, tt) tt t) (fact 𝓤 (Next-says r t))
   next-said r t = exE 𝓤 _ (λ ws. snd∗ 𝓤 (sem 𝓤 H A (lasts next.ended κs (r, tt) ws)) (fact 𝓤 (Next-says r t)))
 
   -- the three together
-  all-said : (r₀ r₁ : Rows) (t : Fetched) → New-says r₀ → Moved-says r₀ r₁ → Next-says r₁ t → statedBy t ≡ answer
+  all-said : (r₀ r₁ : Rows) (t : Fetched) → New-says r₀ → Moved-says r₀ r₁ → Next-says r₁ t → Said t
   all-said r₀ r₁ t e₀ e₁ e = e ∙ (λ i. statedAt (now ((e₁ .0 ∙ e₀ .0) i)) ((e₁ .1 ∙ ap (placeAfter n) (e₀ .1)) i))
 
-  exits : (t : Fetched) (u : Val) → statedBy t ≡ answer → ent 𝓤 (⋆ 𝓤 H A (‵ (F.the-row .own t (u ∷ [])) ∷ (‵ (flft κ q) ⊛ ‵ ftrue) ∷ ‵ Own ∷ [])) (Post u)
+  exits : (t : Fetched) (u : Val) → Said t → ent 𝓤 (⋆ 𝓤 H A (‵ (F.the-row .own t (u ∷ [])) ∷ (‵ (flft κ q) ⊛ ‵ ftrue) ∷ ‵ Own ∷ [])) (Post u)
   exits t u e =
       qed W (‵ (F.the-row .own t (u ∷ [])) ∷ (‵ (flft κ q) ⊛ ‵ ftrue) ∷ ‵ Own ∷ []) ∵
       suffices ! _ (ends-at 𝓤 H A nth.ended stayed (nth.clauses 𝓤 H A mem run) W ((κs, (q, tt), tt, (s, (n, tt)), vals), tt) u t (tt, (tt, tt)) (tt, (tt, tt))) $ says ! e $
