@@ -108,7 +108,7 @@ readAll met =
     }
 
 module _ {file : List ℕ} {met : CheckAnswer} (promised : CheckPromise file met) where
-  same-answer : refusal (met .number) (met .place) ≡ fileAnswer file
+  pub same-answer : refusal (met .number) (met .place) ≡ fileAnswer file
   same-answer = ap (λ (a : CheckAnswer). refusal (a .number) (a .place)) (promised .answer)
 
   pub passed-on : (room : ℕ) → (met .number ≡ 0 → ⊥) → refusal (met .number) (met .place) ≡ readAnswer file room
@@ -116,13 +116,13 @@ module _ {file : List ℕ} {met : CheckAnswer} (promised : CheckPromise file met
   passed-on room some = first-given (refusal (met .number) (met .place)) (fileAnswer file) _ same-answer some
 
   module _ (none : met .number ≡ 0) where
-    accepted : fileAnswer file .number ≡ 0
+    pub accepted : fileAnswer file .number ≡ 0
     accepted = sym (ap (λ (a : Rules.Answer). a .number) same-answer) ∙ none
 
     met-is : met ≡ checkWith success file
     met-is = promised .answer ∙ ap (λ (a : Rules.Answer). checkWith a file) (sym (succeeds file accepted))
 
-    tasks-are : met .tasks ≡ tasksOf file
+    pub tasks-are : met .tasks ≡ tasksOf file
     tasks-are = ap (λ (a : CheckAnswer). a .tasks) met-is
 
     pub rows-fit : (length file ≡ 512 * blocksFor (met .tasks)) × (met .tasks ≤ 200)

@@ -1,0 +1,85 @@
+-- `fetch` meets its contract: the row stands within a file that the check accepts, and is copied from where the task has it.
+use native.Mathlib.Omega.{arith}
+use borrow.Author.Needs.{needs}
+use Rattle.layout.specs.File.{rowStart}
+use Rattle.file.proofs.Laid.{copied}
+use Rattle.rows.specs.Answers.{noRow}
+use Rattle.rows.proofs.Fetches.{refused-is, row-fits, row-is, end-is}
+use Rattle.rows.proofs.fetch.Statement.{statement}
+use Rattle.rows.proofs.fetch.Tie as tie
+
+check-requires : tie.Need-check-requires
+check-requires c κs = search needs
+
+returns : tie.Need-returns
+returns c =
+    refused-is (c .before .before .check .ensures) (c .before .before .before .before .args .task) (c .if1 .taken)
+
+start-requires : tie.Need-start-requires
+start-requires c κs =
+    omega (
+      arith,
+      row-fits (c .before .before .before .before .check .ensures)
+          (c .before .before .before .before .before .before .args .task)
+          (c .before .before .if1 .left)
+          (c .if2 .taken),
+    )
+
+add-copy : tie.Need-add-copy
+add-copy c = search needs
+
+sub-copy : tie.Need-sub-copy
+sub-copy c = search needs
+
+part-copy-start : tie.Need-part-copy-start
+part-copy-start c = search needs
+
+part-copy-end : tie.Need-part-copy-end
+part-copy-end c =
+    omega (
+      arith,
+      row-fits (c .before .before .before .before .before .check .ensures)
+          (c .before .before .before .before .before .before .before .args .task)
+          (c .before .before .before .if1 .left)
+          (c .before .if2 .taken),
+    )
+
+slice-aggregate-copy : tie.Need-slice-aggregate-copy
+slice-aggregate-copy c = search needs
+
+copy-requires : tie.Need-copy-requires
+copy-requires c κs = search needs
+
+returns-2 : tie.Need-returns-2
+returns-2 c =
+    let begun = c .before .before .before .before in
+    let a = begun .before .before .before .before .before .before .before .args in
+    let met = begun .before .before .before .before .before .check .ensures in
+    let none = begun .before .before .before .if1 .left in
+    let row = c .before .copy .last .1 .0 in
+    let fits = row-fits met (a .task) none (begun .before .if2 .taken) in
+    row-is met (a .task) none row (begun .before .if2 .taken)
+    (copied 48 (begun .start .result) 0 (rowStart (a .task)) (a .file .now) noRow row
+    (omega (arith, fits .2, begun .start .ensures))
+    (c .before .copy .ensures .1) (begun .start .ensures))
+
+returns-3 : tie.Need-returns-3
+returns-3 c =
+    end-is (c .before .before .before .before .check .ensures) (c .before .before .before .before .before .before .args .task)
+    (c .before .before .if1 .left) (c .if2 .left)
+
+pub fetch-spec : {M : Type 1} → statement M
+fetch-spec =
+    tie.close
+    (tie.spec
+    check-requires
+    returns
+    start-requires
+    add-copy
+    sub-copy
+    part-copy-start
+    part-copy-end
+    slice-aggregate-copy
+    copy-requires
+    returns-2
+    returns-3)
