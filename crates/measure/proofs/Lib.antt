@@ -2,3 +2,4 @@
 pub mod Filled
 pub mod Sums
 pub mod Told
+pub mod Unique

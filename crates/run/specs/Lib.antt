@@ -1,2 +1,3 @@
 -- What the public calls that run a flow promise.
+pub mod Demand
 pub mod Promises
