@@ -31,6 +31,8 @@ impl Flow {
 
     pub const MAX_BLOCKS: usize = 20;
 
+    pub const MAX_SCHEDULE: usize = 65536;
+
     // A flow of these sizes, refused where one of them is outside the limits.
     pub fn new(tasks: u32, workers: u32, cells: u32) -> Made
         ensures { λ r. ⌜ statedBy r ≡ askedFor tasks workers cells ⌝ }

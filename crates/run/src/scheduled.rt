@@ -3,6 +3,7 @@ use crate::RunAnswer;
 use crate::telling::all_past;
 use crate::telling::done_tasks;
 use file::Answer;
+use flow::Flow;
 use machine::Outcome;
 use machine::stepping::step;
 ghost use mathlib.Core.Path.{_≡_};
@@ -88,7 +89,7 @@ pub fn run(file: &[u8], cells: &mut [u32], schedule: &[u8]) -> RunAnswer
     if cells.len() != octets::offset(met.cells) {
         return RunAnswer::refused(12, 0);
     }
-    if 65536 < schedule.len() {
+    if Flow::MAX_SCHEDULE < schedule.len() {
         return RunAnswer::refused(13, 0);
     }
     let named = schedule_met(schedule, met.workers);
