@@ -1,0 +1,95 @@
+// Flow A's rows, and the two files that the cases change: flow A's own, and one of two blocks with flow A's rows four times over.
+ghost use mathlib.Core.Path.{_≡_};
+ghost use Prim.Native.Nat.{_+_, _≤_};
+ghost use lib.ListN.{length};
+
+// Puts bytes at a place.
+pub(crate) fn lay(bytes: &mut [u8], at: usize, given: &[u8])
+    requires { ⌜ at + length (now given) ≤ length (now bytes) ⌝ }
+{
+    let end = at + given.len();
+    bytes::copy(given, &mut bytes[at..end]);
+}
+
+// Task 1: owner 0, write 0; cell 0 becomes 4660.
+fn task_1(row: &mut [u8])
+    requires { ⌜ length (now row) ≡ 48 ⌝ }
+{
+    lay(row, 0, b"\x00\x01\x01\x00");
+    lay(row, 4, b"\x00\x02");
+    lay(row, 12, b"\x01\x00\x00\x00\x34\x12");
+}
+
+// Task 2: owner 1, read 0, write 1; cell 1 becomes cell 0 swapped.
+fn task_2(row: &mut [u8])
+    requires { ⌜ length (now row) ≡ 48 ⌝ }
+{
+    lay(row, 0, b"\x01\x02\x01\x00");
+    lay(row, 4, b"\x00\x01\x01\x02");
+    lay(row, 12, b"\x05\x01\x00\x00\x00\x00");
+}
+
+// Task 3: owner 0, read 1, read and write 2; cell 2 becomes cell 2 + cell 1.
+fn task_3(row: &mut [u8])
+    requires { ⌜ length (now row) ≡ 48 ⌝ }
+{
+    lay(row, 0, b"\x00\x02\x01\x00");
+    lay(row, 4, b"\x01\x01\x02\x03");
+    lay(row, 12, b"\x03\x02\x01\x00\x00\x00");
+}
+
+// What stands in the first 144 bytes, over and over.
+fn over_and_over(rows: &mut [u8]) {
+    let mut i = 144;
+    while i < rows.len() {
+        rows[i] = rows[i - 144];
+        i += 1;
+    }
+}
+
+// Flow A's three rows, over and over, into bytes that are zero.
+pub(crate) fn rows(rows: &mut [u8])
+    requires { ⌜ 144 ≤ length (now rows) ⌝ }
+{
+    task_1(&mut rows[0..48]);
+    task_2(&mut rows[48..96]);
+    task_3(&mut rows[96..144]);
+    over_and_over(rows);
+}
+
+// Flow A's rows.
+pub(crate) fn rows_a() -> [u8; 144] {
+    let mut space = [0u8; 144];
+    rows(&mut space);
+    space
+}
+
+// As many rows as a flow may have.
+pub(crate) fn rows_of_200() -> [u8; 9600] {
+    let mut space = [0u8; 9600];
+    rows(&mut space);
+    space
+}
+
+// A row more.
+pub(crate) fn rows_of_201() -> [u8; 9648] {
+    let mut space = [0u8; 9648];
+    rows(&mut space);
+    space
+}
+
+// Flow A's file.
+pub(crate) fn file_a(given: &[u8; 144]) -> [u8; 512] {
+    let mut file = [0u8; 512];
+    file::write(given, 2, 3, &mut file);
+    file
+}
+
+// A file of 12 tasks: ten rows in block 0 and two in block 1.
+pub(crate) fn file_of_two() -> [u8; 1024] {
+    let mut given = [0u8; 576];
+    rows(&mut given);
+    let mut file = [0u8; 1024];
+    file::write(&given, 2, 3, &mut file);
+    file
+}
