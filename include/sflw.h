@@ -1,0 +1,113 @@
+/*
+ * Task flows: the check of a flow file, its reader and writer, the plain run
+ * and the stepped run.
+ *
+ * Every call fills its answer and returns the answer's number: 0 for success,
+ * 1 to 16 for a refusal. The place says where the fault is: a block (from 0),
+ * a task (from 1) or the index of a schedule byte (from 0), and is 0 where
+ * none is named. With a refusal every count in the answer is 0, and all other
+ * lent memory is as it was.
+ *
+ * Lengths are in bytes, but for cells_len, which counts cells of 32 bits.
+ * Nothing that is lent for writing may overlap anything else that is lent.
+ */
+#ifndef SFLW_H
+#define SFLW_H
+
+#include <stddef.h>
+#include <stdint.h>
+
+#ifdef __cplusplus
+extern "C" {
+#endif
+
+typedef struct sflw_check_answer {
+    uint32_t number;
+    uint32_t place;
+    uint32_t tasks;   /* 1 to 200 */
+    uint32_t workers; /* 1 to 8 */
+    uint32_t cells;   /* 1 to 32 */
+    uint32_t total;   /* the flow's total: the advancing steps of a finished run */
+} sflw_check_answer;
+
+typedef struct sflw_read_answer {
+    uint32_t number;
+    uint32_t place;
+    uint32_t bytes; /* written to rows: 48 for each task */
+    uint32_t tasks;
+    uint32_t workers;
+    uint32_t cells;
+} sflw_read_answer;
+
+typedef struct sflw_write_answer {
+    uint32_t number;
+    uint32_t place;
+    uint32_t bytes; /* written to out: 512 for each block */
+} sflw_write_answer;
+
+typedef struct sflw_plain_answer {
+    uint32_t number;
+    uint32_t place;
+} sflw_plain_answer;
+
+typedef struct sflw_run_answer {
+    uint32_t number;
+    uint32_t place;
+    uint32_t advanced; /* steps that advanced */
+    uint32_t held;     /* steps that were held */
+    uint32_t done;     /* tasks done */
+    uint32_t finished; /* 1 if all workers are past the last task, else 0 */
+} sflw_run_answer;
+
+/*
+ * Checks a flow file. Refusals 1 to 11. On success it answers the flow's
+ * sizes and its total.
+ */
+uint32_t sflw_check(const uint8_t *file, size_t file_len,
+                    sflw_check_answer *answer);
+
+/*
+ * Reads the rows out of a flow file, 48 bytes a task, task 1 first. Refusals
+ * 1 to 11, then 16 if the rows do not fit. Bytes of rows after the last row
+ * stay as they were.
+ */
+uint32_t sflw_read(const uint8_t *file, size_t file_len,
+                   uint8_t *rows, size_t rows_len,
+                   sflw_read_answer *answer);
+
+/*
+ * Writes a flow file from its rows, its workers and its cells, of which any
+ * value may be given. Refusals 15, then 4, then 6 to 11 task by task, then 16
+ * if the blocks do not fit. Bytes of out after the last block stay as they
+ * were.
+ */
+uint32_t sflw_write(const uint8_t *rows, size_t rows_len,
+                    uint32_t workers, uint32_t cells,
+                    uint8_t *out, size_t out_len,
+                    sflw_write_answer *answer);
+
+/*
+ * The plain run: the tasks one after another, in place on the lent cells,
+ * which hold the start before and the result after. Refusals 1 to 11, then 12
+ * if the cells lent are not as many as the flow's.
+ */
+uint32_t sflw_plain(const uint8_t *file, size_t file_len,
+                    uint32_t *cells, size_t cells_len,
+                    sflw_plain_answer *answer);
+
+/*
+ * The stepped run: each byte of the schedule names the worker that tries its
+ * next step. In place on the lent cells, as the plain run. Refusals 1 to 11,
+ * then 12, then 13 if the schedule is over 65,536 bytes, then 14 at its first
+ * byte that names no worker.
+ */
+uint32_t sflw_run(const uint8_t *file, size_t file_len,
+                  uint32_t *cells, size_t cells_len,
+                  const uint8_t *schedule, size_t schedule_len,
+                  sflw_run_answer *answer);
+
+#ifdef __cplusplus
+}
+#endif
+
+#endif

@@ -1,0 +1,36 @@
+/*
+ * A reference for the calls of sflw.h, in C, written from the scope document
+ * (below: 01) alone. Each call does what the one of the same name in sflw.h
+ * does, and has the same answer.
+ */
+#ifndef REF_H
+#define REF_H
+
+#include "sflw.h"
+
+uint32_t ref_check(const uint8_t *file, size_t file_len,
+                   sflw_check_answer *answer);
+
+uint32_t ref_read(const uint8_t *file, size_t file_len,
+                  uint8_t *rows, size_t rows_len,
+                  sflw_read_answer *answer);
+
+uint32_t ref_write(const uint8_t *rows, size_t rows_len,
+                   uint32_t workers, uint32_t cells,
+                   uint8_t *out, size_t out_len,
+                   sflw_write_answer *answer);
+
+uint32_t ref_plain(const uint8_t *file, size_t file_len,
+                   uint32_t *cells, size_t cells_len,
+                   sflw_plain_answer *answer);
+
+uint32_t ref_run(const uint8_t *file, size_t file_len,
+                 uint32_t *cells, size_t cells_len,
+                 const uint8_t *schedule, size_t schedule_len,
+                 sflw_run_answer *answer);
+
+/* Fletcher's check of 01 over any number of bytes up to 5,000: A in the low
+   byte, B in the next. Here for the published vectors. */
+uint32_t ref_fletcher(const uint8_t *bytes, size_t length);
+
+#endif

@@ -1,0 +1,489 @@
+/*
+ * The library against the reference: time and stack.
+ *
+ *     bench [SAMPLES]
+ *
+ * Both run in turn within each sample, on the processor's clock for this
+ * thread. Shown are the median time of each and the median of the samples'
+ * ratios. A step's time leaves out the check of the file before the run: the
+ * time of an empty schedule is taken off.
+ */
+#define _DEFAULT_SOURCE
+
+#include "calls.h"
+#include "cases.h"
+
+#include <inttypes.h>
+#include <pthread.h>
+#include <stdio.h>
+#include <stdlib.h>
+#include <string.h>
+#include <sys/mman.h>
+#include <time.h>
+
+enum { MOST_SAMPLES = 101, LIBRARY = 0, REFERENCE = 1 };
+
+static const struct calls tables[2] = {LIBRARY_CALLS, REFERENCE_CALLS};
+
+/* ---- what is measured -------------------------------------------------- */
+
+/* The flow that is measured, its file, and two schedules that just finish. */
+struct setting {
+    struct sample flow;
+    uint8_t file[MOST_FILE];
+    size_t file_len;
+    uint8_t fair[MOST_SCHEDULE];
+    size_t fair_len;
+    uint8_t random[MOST_SCHEDULE];
+    size_t random_len;
+};
+
+static struct setting set;
+static uint8_t out[MOST_FILE];
+static uint32_t cells[MOST_CELLS];
+
+static bool finishes(const uint8_t *schedule, size_t length)
+{
+    sflw_run_answer answer;
+    ref_run(set.file, set.file_len, cells, set.flow.cells, schedule, length, &answer);
+    return answer.finished == 1;
+}
+
+/* The fewest bytes of a schedule that finish, or all. */
+static size_t just_finishes(const uint8_t *schedule)
+{
+    size_t least = 0;
+    size_t most = MOST_SCHEDULE;
+    while (least < most) {
+        size_t middle = (least + most) / 2;
+        if (finishes(schedule, middle))
+            most = middle;
+        else
+            least = middle + 1;
+    }
+    return most;
+}
+
+static void make_setting(uint32_t tasks, uint32_t workers, uint32_t cell_count)
+{
+    struct random random = random_of_case(9450, 0);
+    make_full_flow(&random, &set.flow, tasks, workers, cell_count);
+    set.file_len = make_file(&set.flow, set.file);
+    for (uint32_t i = 0; i < MOST_SCHEDULE; i++) {
+        set.fair[i] = (uint8_t)(i % workers);
+        set.random[i] = (uint8_t)below(&random, workers);
+    }
+    set.fair_len = just_finishes(set.fair);
+    set.random_len = just_finishes(set.random);
+}
+
+static void run_schedule(const struct calls *calls, const uint8_t *schedule, size_t length)
+{
+    sflw_run_answer answer;
+    calls->run(set.file, set.file_len, cells, set.flow.cells, schedule, length, &answer);
+}
+
+static void run_fair(const struct calls *calls)
+{
+    run_schedule(calls, set.fair, set.fair_len);
+}
+
+static void run_random(const struct calls *calls)
+{
+    run_schedule(calls, set.random, set.random_len);
+}
+
+static void run_empty(const struct calls *calls)
+{
+    run_schedule(calls, set.fair, 0);
+}
+
+static void check_once(const struct calls *calls)
+{
+    sflw_check_answer answer;
+    calls->check(set.file, set.file_len, &answer);
+}
+
+static void read_once(const struct calls *calls)
+{
+    sflw_read_answer answer;
+    calls->read(set.file, set.file_len, out, sizeof out, &answer);
+}
+
+static void write_once(const struct calls *calls)
+{
+    sflw_write_answer answer;
+    calls->write(set.flow.rows, (size_t)set.flow.tasks * ROW_BYTES, set.flow.workers,
+                 set.flow.cells, out, sizeof out, &answer);
+}
+
+static void plain_once(const struct calls *calls)
+{
+    sflw_plain_answer answer;
+    calls->plain(set.file, set.file_len, cells, set.flow.cells, &answer);
+}
+
+/* ---- time -------------------------------------------------------------- */
+
+typedef void job(const struct calls *calls);
+
+static uint32_t samples = 31;
+
+static double nanoseconds(void)
+{
+    struct timespec time;
+    clock_gettime(CLOCK_THREAD_CPUTIME_ID, &time);
+    return (double)time.tv_sec * 1e9 + (double)time.tv_nsec;
+}
+
+static double time_of(job *once, const struct calls *calls, uint32_t times)
+{
+    double start = nanoseconds();
+    for (uint32_t i = 0; i < times; i++)
+        once(calls);
+    return (nanoseconds() - start) / times;
+}
+
+/* As many times as take about a millisecond. */
+static uint32_t times_for(job *once, const struct calls *calls)
+{
+    double least = 1e6;
+    for (uint32_t i = 0; i < 5; i++) {
+        double one = time_of(once, calls, 1);
+        if (one < least)
+            least = one;
+    }
+    return (uint32_t)(1e6 / (least + 1)) + 1;
+}
+
+static int by_value(const void *left, const void *right)
+{
+    double l = *(const double *)left;
+    double r = *(const double *)right;
+    return (l > r) - (l < r);
+}
+
+static double median(double *values, uint32_t count)
+{
+    qsort(values, count, sizeof *values, by_value);
+    return values[count / 2];
+}
+
+struct measured {
+    double times[2]; /* of one call, in nanoseconds */
+    double ratio;
+};
+
+/* One call, less another where one is given. */
+static struct measured measure(job *once, job *less)
+{
+    static double taken[2][MOST_SAMPLES];
+    static double ratios[MOST_SAMPLES];
+    struct measured measured;
+    uint32_t times[2];
+
+    for (uint32_t which = 0; which < 2; which++)
+        times[which] = times_for(once, &tables[which]);
+    for (uint32_t i = 0; i < samples; i++) {
+        for (uint32_t turn = 0; turn < 2; turn++) {
+            uint32_t which = (turn + i) % 2;
+            taken[which][i] = time_of(once, &tables[which], times[which]);
+            if (less != NULL)
+                taken[which][i] -= time_of(less, &tables[which], times[which]);
+        }
+        ratios[i] = taken[LIBRARY][i] / taken[REFERENCE][i];
+    }
+    measured.times[LIBRARY] = median(taken[LIBRARY], samples);
+    measured.times[REFERENCE] = median(taken[REFERENCE], samples);
+    measured.ratio = median(ratios, samples);
+    return measured;
+}
+
+static void print_head(const char *what)
+{
+    printf("\n%-34s %10s %10s %8s\n", what, "library", "reference", "ratio");
+}
+
+static void measure_line(const char *what, job *once, job *less, double units)
+{
+    struct measured measured = measure(once, less);
+    printf("%-34s %10.3f %10.3f %8.2f\n", what, measured.times[LIBRARY] / units,
+           measured.times[REFERENCE] / units, measured.ratio);
+}
+
+static void time_largest(void)
+{
+    make_setting(MOST_TASKS, MOST_WORKERS, MOST_CELLS);
+    print_head("200 tasks, 8 workers, 32 cells");
+    measure_line("run, fair schedule: ns a step", run_fair, run_empty, (double)set.fair_len);
+    measure_line("run, random schedule: ns a step", run_random, run_empty,
+                 (double)set.random_len);
+    measure_line("run, empty schedule: ns a byte", run_empty, NULL, (double)set.file_len);
+    measure_line("check: ns a byte", check_once, NULL, (double)set.file_len);
+    measure_line("read: ns a byte", read_once, NULL, (double)set.file_len);
+    measure_line("write: ns a byte", write_once, NULL, (double)set.file_len);
+    measure_line("plain run: ns a byte", plain_once, NULL, (double)set.file_len);
+    printf("fair schedule of %zu steps, random one of %zu, file of %zu bytes\n", set.fair_len,
+           set.random_len, set.file_len);
+}
+
+/* ---- growth ------------------------------------------------------------ */
+
+struct size {
+    uint32_t tasks;
+    uint32_t workers;
+};
+
+static const struct size sizes[] = {
+    {10, 8}, {20, 8}, {50, 8}, {100, 8}, {200, 8}, {200, 1}, {200, 2}, {200, 4},
+};
+
+enum { SIZES = sizeof sizes / sizeof sizes[0] };
+
+static double fair_steps(void)
+{
+    return (double)set.fair_len;
+}
+
+static double random_steps(void)
+{
+    return (double)set.random_len;
+}
+
+static double file_bytes(void)
+{
+    return (double)set.file_len;
+}
+
+static void time_growth(const char *what, job *once, job *less, double (*units)(void))
+{
+    print_head(what);
+    for (uint32_t i = 0; i < SIZES; i++) {
+        char line[64];
+        make_setting(sizes[i].tasks, sizes[i].workers, MOST_CELLS);
+        snprintf(line, sizeof line, "%4" PRIu32 " tasks, %" PRIu32 " workers", sizes[i].tasks,
+                 sizes[i].workers);
+        measure_line(line, once, less, units());
+    }
+}
+
+/* ---- stack ------------------------------------------------------------- */
+
+enum { STACK = 1 << 20, PAINTED = 1 << 18, CASES_FOR_STACK = 400, PAINT = 0xc5 };
+
+static struct test_case current;
+
+static uint32_t nothing_check(const uint8_t *file, size_t file_len, sflw_check_answer *answer)
+{
+    (void)file;
+    (void)file_len;
+    answer->number = 0;
+    return 0;
+}
+
+static uint32_t nothing_read(const uint8_t *file, size_t file_len, uint8_t *rows,
+                             size_t rows_len, sflw_read_answer *answer)
+{
+    (void)file;
+    (void)file_len;
+    (void)rows;
+    (void)rows_len;
+    answer->number = 0;
+    return 0;
+}
+
+static uint32_t nothing_write(const uint8_t *rows, size_t rows_len, uint32_t workers,
+                              uint32_t count, uint8_t *bytes, size_t length,
+                              sflw_write_answer *answer)
+{
+    (void)rows;
+    (void)rows_len;
+    (void)workers;
+    (void)count;
+    (void)bytes;
+    (void)length;
+    answer->number = 0;
+    return 0;
+}
+
+static uint32_t nothing_plain(const uint8_t *file, size_t file_len, uint32_t *start,
+                              size_t count, sflw_plain_answer *answer)
+{
+    (void)file;
+    (void)file_len;
+    (void)start;
+    (void)count;
+    answer->number = 0;
+    return 0;
+}
+
+static uint32_t nothing_run(const uint8_t *file, size_t file_len, uint32_t *start, size_t count,
+                            const uint8_t *schedule, size_t schedule_len,
+                            sflw_run_answer *answer)
+{
+    (void)file;
+    (void)file_len;
+    (void)start;
+    (void)count;
+    (void)schedule;
+    (void)schedule_len;
+    answer->number = 0;
+    return 0;
+}
+
+/* What the measuring itself takes is measured on these, and taken off. */
+static const struct calls nothing = {"nothing",     nothing_check, nothing_read,
+                                     nothing_write, nothing_plain, nothing_run};
+
+static uint8_t lent_output[ROOM_OUTPUT];
+
+/* The call of the current case. */
+static void call_current(const struct calls *calls)
+{
+    static uint32_t answer[6];
+    uint32_t *lent_cells = (uint32_t *)(void *)lent_output;
+    switch (current.call) {
+    case CALL_CHECK:
+        calls->check(current.input, current.input_len, (void *)answer);
+        break;
+    case CALL_READ:
+        calls->read(current.input, current.input_len, lent_output, current.output_len,
+                    (void *)answer);
+        break;
+    case CALL_WRITE:
+        calls->write(current.input, current.input_len, current.workers, current.cells,
+                     lent_output, current.output_len, (void *)answer);
+        break;
+    case CALL_PLAIN:
+        calls->plain(current.input, current.input_len, lent_cells, current.output_len / 4,
+                     (void *)answer);
+        break;
+    default:
+        calls->run(current.input, current.input_len, lent_cells, current.output_len / 4,
+                   current.schedule, current.schedule_len, (void *)answer);
+        break;
+    }
+}
+
+struct probe {
+    const struct calls *calls;
+    size_t deepest;
+};
+
+/* Paints the stack below this function, makes the call, and looks how far
+   down the paint is gone. Nothing else is called between, and nothing below
+   the stack pointer is in use. All this is x86-64, as the library is. */
+__attribute__((noinline)) static void *probe_call(void *argument)
+{
+    struct probe *probe = argument;
+    volatile uint8_t *top;
+    __asm__ volatile("mov %%rsp, %0" : "=r"(top));
+    volatile uint8_t *bottom = top - PAINTED;
+
+    for (volatile uint8_t *at = bottom; at < top; at++)
+        *at = PAINT;
+    call_current(probe->calls);
+    volatile uint8_t *at = bottom;
+    while (at < top && *at == PAINT)
+        at++;
+    probe->deepest = (size_t)(top - at);
+    return NULL;
+}
+
+static size_t deepest_of(const struct calls *calls, uint8_t *stack)
+{
+    struct probe probe = {calls, 0};
+    pthread_attr_t attributes;
+    pthread_t thread;
+
+    memcpy(lent_output, current.output, current.output_len);
+    call_current(calls); /* once before, so that nothing is resolved under the probe */
+    memcpy(lent_output, current.output, current.output_len);
+    pthread_attr_init(&attributes);
+    pthread_attr_setstack(&attributes, stack, STACK);
+    if (pthread_create(&thread, &attributes, probe_call, &probe) != 0) {
+        fprintf(stderr, "bench: no thread\n");
+        exit(2);
+    }
+    pthread_join(thread, NULL);
+    pthread_attr_destroy(&attributes);
+    return probe.deepest;
+}
+
+/* The current case: the largest flow, under a call. */
+static void largest_case(uint32_t call)
+{
+    current.call = call;
+    memset(current.output, 0, ROOM_OUTPUT);
+    current.input_len = set.file_len;
+    memcpy(current.input, set.file, set.file_len);
+    if (call == CALL_WRITE) {
+        current.input_len = (size_t)set.flow.tasks * ROW_BYTES;
+        memcpy(current.input, set.flow.rows, current.input_len);
+    }
+    current.workers = set.flow.workers;
+    current.cells = set.flow.cells;
+    bool runs = call == CALL_PLAIN || call == CALL_RUN;
+    current.output_len = runs ? 4 * (size_t)set.flow.cells : MOST_FILE;
+    current.schedule_len = set.fair_len;
+    memcpy(current.schedule, set.fair, set.fair_len);
+}
+
+/* The deepest over the largest flow and some hundred cases of all kinds. The
+   eight bytes of the return address are counted. */
+static void measure_stack(uint32_t call, uint8_t *stack, size_t deepest[2])
+{
+    deepest[LIBRARY] = 0;
+    deepest[REFERENCE] = 0;
+    for (uint32_t i = 0; i <= CASES_FOR_STACK; i++) {
+        if (i == 0)
+            largest_case(call);
+        else
+            make_case(9450, i, ALL_SIZES, &current);
+        if (current.call != call)
+            continue;
+        size_t base = deepest_of(&nothing, stack) - 8;
+        for (uint32_t which = 0; which < 2; which++) {
+            size_t found = deepest_of(&tables[which], stack) - base;
+            if (found > deepest[which])
+                deepest[which] = found;
+        }
+    }
+}
+
+static void stack_table(void)
+{
+    uint8_t *stack = mmap(NULL, STACK, PROT_READ | PROT_WRITE, MAP_PRIVATE | MAP_ANONYMOUS, -1, 0);
+    if (stack == MAP_FAILED) {
+        perror("bench: stack");
+        exit(2);
+    }
+    make_setting(MOST_TASKS, MOST_WORKERS, MOST_CELLS);
+    print_head("deepest stack, bytes");
+    for (uint32_t call = CALL_CHECK; call <= CALL_RUN; call++) {
+        size_t deepest[2];
+        measure_stack(call, stack, deepest);
+        printf("%-34s %10zu %10zu %8.2f\n", call_name(call), deepest[LIBRARY],
+               deepest[REFERENCE], (double)deepest[LIBRARY] / (double)deepest[REFERENCE]);
+    }
+    munmap(stack, STACK);
+}
+
+/* ---- the program ------------------------------------------------------- */
+
+int main(int count, char **arguments)
+{
+    if (count > 1)
+        samples = (uint32_t)strtoul(arguments[1], NULL, 0);
+    if (samples < 1 || samples > MOST_SAMPLES)
+        samples = 31;
+
+    time_largest();
+    time_growth("run, fair schedule: ns a step", run_fair, run_empty, fair_steps);
+    time_growth("run, random schedule: ns a step", run_random, run_empty, random_steps);
+    time_growth("check: ns a byte", check_once, NULL, file_bytes);
+    time_growth("read: ns a byte", read_once, NULL, file_bytes);
+    time_growth("write: ns a byte", write_once, NULL, file_bytes);
+    stack_table();
+    return 0;
+}

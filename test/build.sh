@@ -1,0 +1,68 @@
+#!/usr/bin/env bash
+# Builds the reference and the tests into target/test:
+#
+#     test/build.sh [FOLDER]
+#
+# FOLDER has libsflw.a, and sflw.h if it is not the one of include/; without
+# it target/staticlib is taken. Where there is no libsflw.a only the programs
+# that need none are built: scope and vectors.
+#
+# The library is x86-64 code. On an aarch64 machine all is built for x86-64
+# with Debian's cross compiler, which is installed if it is missing, and
+# test/run.sh runs it under an emulator.
+set -euo pipefail
+top="$(cd "$(dirname "${BASH_SOURCE[0]}")/.." && pwd)"
+folder="${1:-$top/target/staticlib}"
+to="$top/target/test"
+flags=(-std=c11 -O2 -Wall -Wextra)
+
+case "$(uname -m)" in
+x86_64)
+    cc="${CC:-gcc}"
+    ;;
+aarch64)
+    cc=x86_64-linux-gnu-gcc
+    packages=(gcc-x86-64-linux-gnu libc6-dev-amd64-cross)
+    flags+=(-static)
+    if ! echo 'int main(void) { return 0; }' | "$cc" -static -x c -o /dev/null - 2>/dev/null; then
+        apt-get install -y --no-install-recommends "${packages[@]}" ||
+            { apt-get update && apt-get install -y --no-install-recommends "${packages[@]}"; }
+    fi
+    ;;
+*)
+    echo "build.sh: x86_64 or aarch64 is needed, not $(uname -m)" >&2
+    exit 2
+    ;;
+esac
+
+if [ -e "$folder/sflw.h" ]; then
+    flags+=(-I "$folder")
+fi
+flags+=(-I "$top/include" -I "$top/reference" -I "$top/test")
+
+mkdir -p "$to"
+objects=()
+for source in reference/ref test/flows test/cases test/named_cases test/lent; do
+    object="$to/$(basename "$source").o"
+    "$cc" "${flags[@]}" -c "$top/$source.c" -o "$object"
+    objects+=("$object")
+done
+
+# build NAME WORDS..: the program NAME from test/NAME.c
+build() {
+    local name="$1"
+    shift
+    "$cc" "${flags[@]}" "$top/test/$name.c" "${objects[@]}" "$@" -o "$to/$name"
+    echo "built target/test/$name"
+}
+
+build vectors
+if [ -e "$folder/libsflw.a" ]; then
+    build scope -DWITH_LIBRARY "$folder/libsflw.a"
+    build differential "$folder/libsflw.a"
+    build bench "$folder/libsflw.a" -pthread
+else
+    rm -f "$to/differential" "$to/bench"
+    build scope
+    echo "build.sh: no $folder/libsflw.a, so no differential and no bench"
+fi

@@ -1,0 +1,23 @@
+/* The five calls of sflw.h as a table, so that a test can hold one
+   implementation against another. */
+#ifndef CALLS_H
+#define CALLS_H
+
+#include "ref.h"
+#include "sflw.h"
+
+struct calls {
+    const char *name;
+    uint32_t (*check)(const uint8_t *, size_t, sflw_check_answer *);
+    uint32_t (*read)(const uint8_t *, size_t, uint8_t *, size_t, sflw_read_answer *);
+    uint32_t (*write)(const uint8_t *, size_t, uint32_t, uint32_t, uint8_t *, size_t,
+                      sflw_write_answer *);
+    uint32_t (*plain)(const uint8_t *, size_t, uint32_t *, size_t, sflw_plain_answer *);
+    uint32_t (*run)(const uint8_t *, size_t, uint32_t *, size_t, const uint8_t *, size_t,
+                    sflw_run_answer *);
+};
+
+#define LIBRARY_CALLS {"library", sflw_check, sflw_read, sflw_write, sflw_plain, sflw_run}
+#define REFERENCE_CALLS {"reference", ref_check, ref_read, ref_write, ref_plain, ref_run}
+
+#endif

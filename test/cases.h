@@ -1,0 +1,51 @@
+/*
+ * Test cases: a call of sflw.h with all that is lent to it. Each depends on a
+ * seed and its own number alone.
+ */
+#ifndef CASES_H
+#define CASES_H
+
+#include "flows.h"
+
+enum call { CALL_CHECK = 1, CALL_READ, CALL_WRITE, CALL_PLAIN, CALL_RUN };
+
+enum { ROOM_INPUT = 16384, ROOM_OUTPUT = 16384, ROOM_SCHEDULE = 70000 };
+
+enum { MOST_SCHEDULE = 65536 };
+
+struct test_case {
+    uint32_t call;
+    const char *kind; /* how it was made, for a message */
+
+    uint8_t input[ROOM_INPUT]; /* the file; for the writer the rows */
+    size_t input_len;
+    uint32_t workers; /* the writer's */
+    uint32_t cells;
+
+    uint8_t output[ROOM_OUTPUT]; /* rows, out or cells, as they are lent */
+    size_t output_len;           /* in bytes, for cells too */
+
+    uint8_t schedule[ROOM_SCHEDULE];
+    size_t schedule_len;
+
+    /* the answer, where it is known from how the case was made */
+    bool known;
+    uint32_t number;
+    uint32_t place;
+};
+
+/* How large the flows and schedules are: of all sizes, or mostly a few tasks
+   with now and then a larger flow. */
+enum sizes { ALL_SIZES, MOSTLY_SMALL };
+
+void make_case(uint64_t seed, uint64_t number, enum sizes sizes, struct test_case *made);
+
+const char *call_name(uint32_t call);
+
+/* The words of a call's answer: 6, 6, 3, 2, 6. */
+uint32_t answer_words(uint32_t call);
+
+/* The name of a word of a call's answer. */
+const char *answer_word(uint32_t call, uint32_t index);
+
+#endif

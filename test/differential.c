@@ -1,0 +1,368 @@
+/*
+ * The library against the reference: every word of the answer and every lent
+ * byte, over cases made from a seed.
+ *
+ *     differential [CASES [SEED [FIRST]]]
+ *
+ * Ends at the first difference, with the seed and the number of the case.
+ * FIRST is the number of the first case, to come straight to one.
+ */
+#define _DEFAULT_SOURCE
+
+#include "lent.h"
+#include "named_cases.h"
+
+#include <inttypes.h>
+#include <signal.h>
+#include <stdio.h>
+#include <stdlib.h>
+#include <string.h>
+#include <sys/mman.h>
+#include <time.h>
+#include <unistd.h>
+
+enum { NUMBERS = 17 };
+
+static const struct calls library = LIBRARY_CALLS;
+static const struct calls reference = REFERENCE_CALLS;
+
+static struct memory library_memory;
+static struct memory reference_memory;
+static struct test_case current;
+
+static uint64_t seed = 20220127;
+static uint64_t case_number;
+static bool named; /* the case is one that 01 names, and not from the seed */
+static const char *volatile inside = "no call";
+
+/* ---- what is met ------------------------------------------------------- */
+
+struct tally {
+    uint64_t met[CALL_RUN + 1][NUMBERS];
+    uint64_t known;
+    uint64_t finished;
+    uint64_t steps;
+};
+
+static struct tally tally;
+
+static void count_case(void)
+{
+    tally.met[current.call][reference_memory.returned]++;
+    tally.known += current.known;
+    if (current.call == CALL_RUN && reference_memory.returned == 0) {
+        tally.finished += answer_at(&reference_memory, 5);
+        tally.steps += current.schedule_len;
+    }
+}
+
+static uint64_t met_in_all(uint32_t number)
+{
+    uint64_t sum = 0;
+    for (uint32_t call = CALL_CHECK; call <= CALL_RUN; call++)
+        sum += tally.met[call][number];
+    return sum;
+}
+
+static void print_tally(void)
+{
+    printf("%6s", "number");
+    for (uint32_t call = CALL_CHECK; call <= CALL_RUN; call++)
+        printf(" %8s", call_name(call));
+    printf(" %9s\n", "all");
+    for (uint32_t number = 0; number < NUMBERS; number++) {
+        printf("%6" PRIu32, number);
+        for (uint32_t call = CALL_CHECK; call <= CALL_RUN; call++)
+            printf(" %8" PRIu64, tally.met[call][number]);
+        printf(" %9" PRIu64 "\n", met_in_all(number));
+    }
+}
+
+/* Every number at least 20 times in 100,000 cases. */
+static bool enough_met(uint64_t cases)
+{
+    bool enough = true;
+    for (uint32_t number = 0; number < NUMBERS; number++) {
+        if (met_in_all(number) < cases / 5000) {
+            printf("number %" PRIu32 " was met too seldom\n", number);
+            enough = false;
+        }
+    }
+    return enough;
+}
+
+/* ---- a difference ------------------------------------------------------ */
+
+static void print_answer(const struct calls *calls, const struct memory *memory)
+{
+    printf("%-9s: returned %" PRIu32 ";", calls->name, memory->returned);
+    for (uint32_t i = 0; i < answer_words(current.call); i++)
+        printf(" %s %" PRIu32, answer_word(current.call, i), answer_at(memory, i));
+    printf("\n");
+}
+
+static void print_which(void)
+{
+    if (named)
+        printf("a case of 01: ");
+    else
+        printf("seed %" PRIu64 " case %" PRIu64 ": ", seed, case_number);
+    printf("%s, %s: ", call_name(current.call), current.kind);
+}
+
+static void print_case(const char *what)
+{
+    print_which();
+    printf("%s\n", what);
+    printf("lengths: input %zu output %zu schedule %zu; workers %" PRIu32 " cells %" PRIu32 "\n",
+           current.input_len, current.output_len, current.schedule_len, current.workers,
+           current.cells);
+    if (current.known)
+        printf("made so that: number %" PRIu32 " place %" PRIu32 "\n", current.number,
+               current.place);
+    print_answer(&library, &library_memory);
+    print_answer(&reference, &reference_memory);
+}
+
+static void print_first_byte(void)
+{
+    for (size_t i = 0; i < current.output_len; i++) {
+        if (library_memory.output.at[i] != reference_memory.output.at[i]) {
+            printf("lent byte %zu: library %u, reference %u, before the call %u\n", i,
+                   library_memory.output.at[i], reference_memory.output.at[i],
+                   current.output[i]);
+            return;
+        }
+    }
+}
+
+/* A call that ended the program, as by a byte beyond what was lent. */
+static void ended_by_signal(int number)
+{
+    print_which();
+    printf("the %s was ended by signal %d\n", inside, number);
+    fflush(stdout);
+    _exit(1);
+}
+
+static void catch_signals(void)
+{
+    static const int numbers[] = {SIGSEGV, SIGBUS, SIGILL, SIGFPE, SIGABRT};
+    for (size_t i = 0; i < sizeof numbers / sizeof numbers[0]; i++)
+        signal(numbers[i], ended_by_signal);
+}
+
+/* ---- one case ---------------------------------------------------------- */
+
+static const char *difference(void)
+{
+    if (library_memory.returned != reference_memory.returned)
+        return "the numbers returned differ";
+    if (memcmp(library_memory.answer.at, reference_memory.answer.at,
+               4 * answer_words(current.call)) != 0)
+        return "the answers differ";
+    if (memcmp(library_memory.output.at, reference_memory.output.at, current.output_len) != 0)
+        return "the lent memory differs";
+    return NULL;
+}
+
+/* The reference itself: a case made so that its answer is known has it. */
+static bool answer_as_made(void)
+{
+    return !current.known || (answer_at(&reference_memory, 0) == current.number &&
+                              answer_at(&reference_memory, 1) == current.place);
+}
+
+/* A finished run made the flow's total of advancing steps, and its cells are
+   those of the plain run. */
+static bool finished_as_plain(void)
+{
+    uint32_t cells[MOST_CELLS];
+    sflw_check_answer checked;
+    sflw_plain_answer plain;
+
+    if (current.call != CALL_RUN || reference_memory.returned != 0 ||
+        answer_at(&reference_memory, 5) == 0)
+        return true;
+    memcpy(cells, current.output, current.output_len);
+    ref_check(current.input, current.input_len, &checked);
+    ref_plain(current.input, current.input_len, cells, current.output_len / 4, &plain);
+    return answer_at(&reference_memory, 2) == checked.total &&
+           answer_at(&reference_memory, 4) == checked.tasks &&
+           memcmp(cells, reference_memory.output.at, current.output_len) == 0;
+}
+
+/* Rows that were read make the same file again. */
+static bool written_as_read(void)
+{
+    static uint8_t file[MOST_FILE];
+    sflw_write_answer written;
+
+    if (current.call != CALL_READ || reference_memory.returned != 0)
+        return true;
+    ref_write(reference_memory.output.at, answer_at(&reference_memory, 2),
+              answer_at(&reference_memory, 4), answer_at(&reference_memory, 5), file, MOST_FILE,
+              &written);
+    return written.number == 0 && written.bytes == current.input_len &&
+           memcmp(file, current.input, current.input_len) == 0;
+}
+
+/* False, and all is said, if the case shows anything wrong. */
+static bool case_passes(void)
+{
+    enum where where = case_number % 2 == 0   ? IN_THE_MIDDLE
+                       : case_number % 8 == 1 ? AT_THE_START
+                                              : AT_THE_END;
+    size_t shift = case_number / 2 % 16;
+    const char *wrong;
+
+    inside = library.name;
+    call_case(&library, &current, where, shift, &library_memory);
+    inside = reference.name;
+    call_case(&reference, &current, where, shift, &reference_memory);
+    inside = "no call";
+
+    if ((wrong = misdeed(&library_memory, &current)) != NULL) {
+        print_case(wrong);
+        printf("it was the library\n");
+        return false;
+    }
+    if ((wrong = misdeed(&reference_memory, &current)) != NULL) {
+        print_case(wrong);
+        printf("it was the reference\n");
+        return false;
+    }
+    if ((wrong = difference()) != NULL) {
+        print_case(wrong);
+        print_first_byte();
+        return false;
+    }
+    if (!answer_as_made() || !finished_as_plain() || !written_as_read()) {
+        print_case("the reference is not as the rules say");
+        return false;
+    }
+    return true;
+}
+
+/* The cases that 01 names, in each of the three ways to lend. */
+static bool named_cases_pass(void)
+{
+    bool pass = true;
+    named = true;
+    for (uint32_t i = 0; i < named_case_count && pass; i++) {
+        make_named_case(&named_cases[i], &current);
+        for (case_number = 0; case_number < 4 && pass; case_number++)
+            pass = case_passes();
+    }
+    named = false;
+    return pass;
+}
+
+/* ---- lengths of more than 32 bits -------------------------------------- */
+
+/* Room that is never touched but at its start: 2^32 + 64 cells. */
+static const size_t LONG = ((size_t)1 << 32) + 64;
+
+static bool long_answer(const char *what, uint32_t number, uint32_t wanted)
+{
+    if (number != wanted)
+        printf("%s of over 2^32: number %" PRIu32 ", not %" PRIu32 "\n", what, number, wanted);
+    return number == wanted;
+}
+
+static bool long_lengths_pass(const struct calls *calls, uint8_t *room)
+{
+    size_t over = (size_t)1 << 32;
+    struct sample flow;
+    uint8_t file[BLOCK_BYTES];
+    uint8_t out[BLOCK_BYTES];
+    uint32_t cells[3] = {0, 0, 5};
+    uint8_t names[] = {0, 1};
+    sflw_check_answer checked;
+    sflw_read_answer read;
+    sflw_write_answer written;
+    sflw_plain_answer plain;
+    sflw_run_answer run;
+    bool pass = true;
+
+    make_flow_a(&flow);
+    size_t length = make_file(&flow, file);
+
+    memcpy(room, file, length);
+    pass &= long_answer("file", calls->check(room, over + length, &checked), 1);
+    memset(room, 0, BLOCK_BYTES);
+    pass &= long_answer("rows lent", calls->read(file, length, room, over + 1, &read), 0);
+    pass &= memcmp(room, flow.rows, 3 * ROW_BYTES) == 0;
+    memcpy(room, flow.rows, 3 * ROW_BYTES);
+    pass &= long_answer("rows", calls->write(room, over + 144, 2, 3, out, 512, &written), 15);
+    pass &= long_answer("out", calls->write(flow.rows, 144, 2, 3, room, over + 1, &written), 0);
+    pass &= memcmp(room, file, length) == 0;
+    memset(room, 0, BLOCK_BYTES);
+    uint32_t *many = (uint32_t *)(void *)room;
+    pass &= long_answer("cells", calls->plain(file, length, many, over + 3, &plain), 12);
+    pass &= long_answer("cells", calls->run(file, length, many, over + 3, names, 2, &run), 12);
+    pass &= long_answer("schedule", calls->run(file, length, cells, 3, room, over + 2, &run), 13);
+    return pass;
+}
+
+static bool test_long_lengths(void)
+{
+    uint8_t *room = mmap(NULL, LONG * 4, PROT_READ | PROT_WRITE,
+                         MAP_PRIVATE | MAP_ANONYMOUS | MAP_NORESERVE, -1, 0);
+    if (room == MAP_FAILED) {
+        printf("lengths over 2^32: not tried, no room\n");
+        return true;
+    }
+    bool pass = long_lengths_pass(&library, room) && long_lengths_pass(&reference, room);
+    munmap(room, LONG * 4);
+    return pass;
+}
+
+/* ---- the test ---------------------------------------------------------- */
+
+static double now(void)
+{
+    struct timespec time;
+    clock_gettime(CLOCK_MONOTONIC, &time);
+    return (double)time.tv_sec + (double)time.tv_nsec * 1e-9;
+}
+
+static uint64_t number_argument(int count, char **arguments, int index, uint64_t otherwise)
+{
+    return index < count ? strtoull(arguments[index], NULL, 0) : otherwise;
+}
+
+int main(int count, char **arguments)
+{
+    uint64_t cases = number_argument(count, arguments, 1, 100000);
+    seed = number_argument(count, arguments, 2, seed);
+    uint64_t first = number_argument(count, arguments, 3, 0);
+
+    open_memory(&library_memory);
+    open_memory(&reference_memory);
+    catch_signals();
+    if (!named_cases_pass())
+        return 1;
+    double start = now();
+    for (uint64_t i = 0; i < cases; i++) {
+        case_number = first + i;
+        make_case(seed, case_number, ALL_SIZES, &current);
+        if (!case_passes())
+            return 1;
+        count_case();
+    }
+    double seconds = now() - start;
+
+    current.kind = "lengths over 2^32";
+    current.call = 0;
+    inside = "library or reference";
+    bool pass = test_long_lengths();
+    print_tally();
+    printf("seed %" PRIu64 ": %" PRIu64 " cases, %.1f s, %.0f a second; %" PRIu64
+           " with an answer known beforehand, %" PRIu64 " runs finished, %" PRIu64 " steps\n",
+           seed, cases, seconds, (double)cases / seconds, tally.known, tally.finished,
+           tally.steps);
+    pass &= enough_met(cases);
+    printf(pass ? "no difference\n" : "failed\n");
+    return pass ? 0 : 1;
+}

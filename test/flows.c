@@ -1,0 +1,566 @@
+#include "flows.h"
+
+#include <string.h>
+
+/* ---- valid flows ------------------------------------------------------- */
+
+static void put_operation(uint8_t *row, uint32_t index, uint32_t code,
+                          uint32_t a, uint32_t b, uint32_t k)
+{
+    uint8_t *operation = row + 12 + 6 * index;
+    operation[0] = (uint8_t)code;
+    operation[1] = (uint8_t)a;
+    operation[2] = (uint8_t)b;
+    operation[3] = 0;
+    operation[4] = (uint8_t)k;
+    operation[5] = (uint8_t)(k >> 8);
+}
+
+static void put_access(uint8_t *row, uint32_t index, uint32_t cell, uint32_t mode)
+{
+    row[4 + 2 * index] = (uint8_t)cell;
+    row[5 + 2 * index] = (uint8_t)mode;
+}
+
+static void put_head(uint8_t *row, uint32_t owner, uint32_t accesses, uint32_t operations)
+{
+    memset(row, 0, ROW_BYTES);
+    row[0] = (uint8_t)owner;
+    row[1] = (uint8_t)accesses;
+    row[2] = (uint8_t)operations;
+}
+
+void make_flow_a(struct sample *flow)
+{
+    uint8_t *row = flow->rows;
+    flow->tasks = 3;
+    flow->workers = 2;
+    flow->cells = 3;
+
+    put_head(row, 0, 1, 1);
+    put_access(row, 0, 0, 2);
+    put_operation(row, 0, 1, 0, 0, 4660);
+
+    row += ROW_BYTES;
+    put_head(row, 1, 2, 1);
+    put_access(row, 0, 0, 1);
+    put_access(row, 1, 1, 2);
+    put_operation(row, 0, 5, 1, 0, 0);
+
+    row += ROW_BYTES;
+    put_head(row, 0, 2, 1);
+    put_access(row, 0, 1, 1);
+    put_access(row, 1, 2, 3);
+    put_operation(row, 0, 3, 2, 1, 0);
+}
+
+/* A cell of a set that has at least one. */
+static uint32_t cell_of(struct random *random, uint32_t set)
+{
+    uint32_t skip = below(random, (uint32_t)__builtin_popcount(set));
+    while (skip-- > 0)
+        set &= set - 1;
+    return (uint32_t)__builtin_ctz(set);
+}
+
+static uint32_t constant(struct random *random)
+{
+    static const uint16_t edges[] = {0, 1, 255, 256, 65535, 65280, 4660};
+    return chance(random, 300) ? edges[below(random, 7)] : below(random, 65536);
+}
+
+/* One operation that the sets allow; the cell written becomes readable. */
+static void make_operation(struct random *random, uint8_t *row, uint32_t index,
+                           uint32_t *readable, uint32_t writable)
+{
+    uint32_t code = between(random, 1, 6);
+    uint32_t a = cell_of(random, writable);
+
+    if (*readable == 0)
+        code = 1;
+    if (code == 3 || code == 4 || code == 6) {
+        if ((*readable & writable) != 0)
+            a = cell_of(random, *readable & writable);
+        else
+            code = chance(random, 500) ? 2 : 5;
+    }
+    if (code == 1)
+        put_operation(row, index, 1, a, 0, constant(random));
+    else
+        put_operation(row, index, code, a, cell_of(random, *readable), 0);
+    *readable |= UINT32_C(1) << a;
+}
+
+static void make_operations(struct random *random, uint8_t *row,
+                            uint32_t readable, uint32_t writable)
+{
+    for (uint32_t i = 0; i < row[2]; i++)
+        make_operation(random, row, i, &readable, writable);
+}
+
+void make_row(struct random *random, uint8_t *row, uint32_t workers, uint32_t hot)
+{
+    uint32_t accesses = between(random, 1, hot < 4 ? hot : 4);
+    uint32_t named = 0;
+    uint32_t readable = 0;
+    uint32_t writable = 0;
+
+    put_head(row, below(random, workers), accesses, 0);
+    for (uint32_t i = 0; i < accesses; i++) {
+        uint32_t cell = below(random, hot);
+        while (named >> cell & 1)
+            cell = (cell + 1) % hot;
+        uint32_t mode = between(random, 1, 3);
+        put_access(row, i, cell, mode);
+        named |= UINT32_C(1) << cell;
+        readable |= mode != 2 ? UINT32_C(1) << cell : 0;
+        writable |= mode != 1 ? UINT32_C(1) << cell : 0;
+    }
+    if (writable != 0)
+        row[2] = (uint8_t)below(random, 7);
+    make_operations(random, row, readable, writable);
+}
+
+static void set_sizes(struct sample *flow, uint32_t tasks, uint32_t workers, uint32_t cells)
+{
+    flow->tasks = tasks;
+    flow->workers = workers;
+    flow->cells = cells;
+}
+
+void make_flow(struct random *random, struct sample *flow,
+               uint32_t tasks, uint32_t workers, uint32_t cells)
+{
+    /* a few hot cells in every other flow, so that workers wait */
+    uint32_t hot = chance(random, 500) ? between(random, 1, cells) : cells;
+
+    set_sizes(flow, tasks, workers, cells);
+    for (uint32_t i = 0; i < tasks; i++)
+        make_row(random, flow->rows + i * ROW_BYTES, workers, hot);
+}
+
+void make_full_flow(struct random *random, struct sample *flow,
+                    uint32_t tasks, uint32_t workers, uint32_t cells)
+{
+    set_sizes(flow, tasks, workers, cells);
+    for (uint32_t i = 0; i < tasks; i++) {
+        uint8_t *row = flow->rows + i * ROW_BYTES;
+        uint32_t named = 0;
+        put_head(row, below(random, workers), 4, 6);
+        for (uint32_t j = 0; j < 4; j++) {
+            uint32_t cell = below(random, cells);
+            while (named >> cell & 1)
+                cell = (cell + 1) % cells;
+            put_access(row, j, cell, 3);
+            named |= UINT32_C(1) << cell;
+        }
+        make_operations(random, row, named, named);
+    }
+}
+
+uint32_t total_of(const struct sample *flow)
+{
+    uint32_t total = 0;
+    for (uint32_t i = 0; i < flow->tasks; i++) {
+        const uint8_t *row = flow->rows + i * ROW_BYTES;
+        for (uint32_t j = 0; j < row[1]; j++)
+            total += row[5 + 2 * j] == 1 ? 2 : 4;
+        total += row[2];
+        total += flow->workers - 1;
+    }
+    return total;
+}
+
+/* ---- files ------------------------------------------------------------- */
+
+uint32_t blocks_of(uint32_t tasks)
+{
+    return tasks / 10 + (tasks % 10 != 0);
+}
+
+uint8_t *row_in_file(uint8_t *file, uint32_t index)
+{
+    return file + BLOCK_BYTES * (index / 10) + 16 + ROW_BYTES * (index % 10);
+}
+
+/* As 01 says it, byte by byte. */
+void put_check(uint8_t *block)
+{
+    uint32_t a = 0;
+    uint32_t b = 0;
+    for (uint32_t i = 0; i < 510; i++) {
+        a = (a + block[i]) % 255;
+        b = (b + a) % 255;
+    }
+    block[510] = (uint8_t)a;
+    block[511] = (uint8_t)b;
+}
+
+static uint32_t get_two(const uint8_t *at)
+{
+    return at[0] + 256u * at[1];
+}
+
+static void put_two(uint8_t *at, uint32_t value)
+{
+    at[0] = (uint8_t)(value % 256);
+    at[1] = (uint8_t)(value / 256);
+}
+
+size_t make_file(const struct sample *flow, uint8_t *file)
+{
+    uint32_t blocks = blocks_of(flow->tasks);
+
+    memset(file, 0, (size_t)blocks * BLOCK_BYTES);
+    for (uint32_t index = 0; index < blocks; index++) {
+        uint8_t *block = file + BLOCK_BYTES * index;
+        memcpy(block, "SFLW", 4);
+        block[4] = 1;
+        block[5] = (uint8_t)(index + 1 < blocks ? 10 : flow->tasks - 10 * index);
+        put_two(block + 6, index);
+        put_two(block + 8, blocks);
+        put_two(block + 10, flow->tasks);
+        block[12] = (uint8_t)flow->workers;
+        block[13] = (uint8_t)flow->cells;
+    }
+    for (uint32_t i = 0; i < flow->tasks; i++)
+        memcpy(row_in_file(file, i), flow->rows + i * ROW_BYTES, ROW_BYTES);
+    for (uint32_t index = 0; index < blocks; index++)
+        put_check(file + BLOCK_BYTES * index);
+    return (size_t)blocks * BLOCK_BYTES;
+}
+
+/* ---- faults of a row --------------------------------------------------- */
+
+/* A byte from `least` to 255, often one of the two. */
+static uint8_t from(struct random *random, uint32_t least)
+{
+    if (chance(random, 500))
+        return (uint8_t)(chance(random, 700) ? least : 255);
+    return (uint8_t)between(random, least, 255);
+}
+
+static void spoil_counts(struct random *random, uint8_t *row)
+{
+    switch (below(random, 4)) {
+    case 0:
+        row[1] = 0;
+        break;
+    case 1:
+        row[1] = from(random, 5);
+        break;
+    case 2:
+        row[2] = from(random, 7);
+        break;
+    default:
+        row[3] = from(random, 1);
+        break;
+    }
+}
+
+static void spoil_access(struct random *random, uint8_t *row, uint32_t cells)
+{
+    uint32_t index = below(random, 4);
+    uint8_t *access = row + 4 + 2 * index;
+
+    if (index >= row[1])
+        access[below(random, 2)] = from(random, 1);
+    else if (chance(random, 400))
+        access[0] = from(random, cells);
+    else if (chance(random, 500))
+        access[1] = 0;
+    else
+        access[1] = from(random, 4);
+}
+
+static void name_twice(struct random *random, uint8_t *row)
+{
+    if (row[1] == 1) {
+        row[1] = 2;
+        row[7] = (uint8_t)between(random, 1, 3);
+    }
+    uint32_t first = below(random, row[1]);
+    uint32_t second = (first + between(random, 1, row[1] - 1u)) % row[1];
+    row[4 + 2 * second] = row[4 + 2 * first];
+}
+
+static void spoil_used_operation(struct random *random, uint8_t *operation, uint32_t cells)
+{
+    switch (below(random, 6)) {
+    case 0:
+        operation[0] = 0;
+        break;
+    case 1:
+        operation[0] = from(random, 7);
+        break;
+    case 2:
+        operation[1] = from(random, cells);
+        break;
+    case 3:
+        operation[2] = from(random, operation[0] == 1 ? 1 : cells);
+        break;
+    case 4:
+        operation[3] = from(random, 1);
+        break;
+    default:
+        if (operation[0] == 1)
+            operation[2] = from(random, 1);
+        else
+            operation[4 + below(random, 2)] = from(random, 1);
+        break;
+    }
+}
+
+static void spoil_operation(struct random *random, uint8_t *row, uint32_t cells)
+{
+    uint32_t index = below(random, 6);
+    uint8_t *operation = row + 12 + 6 * index;
+
+    if (index >= row[2])
+        operation[below(random, 6)] = from(random, 1);
+    else
+        spoil_used_operation(random, operation, cells);
+}
+
+/* The cells that the operation at `index` may read, and those it may write. */
+static void rights_at(const uint8_t *row, uint32_t index,
+                      uint32_t *readable, uint32_t *writable)
+{
+    *readable = 0;
+    *writable = 0;
+    for (uint32_t i = 0; i < row[1]; i++) {
+        uint32_t bit = UINT32_C(1) << row[4 + 2 * i];
+        *readable |= row[5 + 2 * i] != 2 ? bit : 0;
+        *writable |= row[5 + 2 * i] != 1 ? bit : 0;
+    }
+    for (uint32_t i = 0; i < index; i++)
+        *readable |= UINT32_C(1) << row[12 + 6 * i + 1];
+}
+
+/* An operation against the modes: it writes a cell of mode 1 or of none, or
+   reads one of none or of mode 2 that is not yet written. */
+static void spoil_modes(struct random *random, uint8_t *row, uint32_t cells)
+{
+    uint32_t all = cells == 32 ? UINT32_MAX : (UINT32_C(1) << cells) - 1;
+    uint32_t index = below(random, row[2] < 6 ? row[2] + 1u : 6);
+    uint32_t readable;
+    uint32_t writable;
+
+    rights_at(row, index, &readable, &writable);
+    uint32_t closed = all & ~writable;
+    uint32_t hidden = all & ~readable;
+    uint32_t code = between(random, 1, 6);
+    if (index == row[2])
+        row[2]++;
+
+    if (closed != 0 && (hidden == 0 || chance(random, 500))) {
+        uint32_t b = readable != 0 ? cell_of(random, readable) : below(random, cells);
+        put_operation(row, index, code, cell_of(random, closed),
+                      code == 1 ? 0 : b, code == 1 ? constant(random) : 0);
+    } else if (hidden != 0) {
+        uint32_t a = writable != 0 ? cell_of(random, writable) : below(random, cells);
+        uint32_t b = cell_of(random, hidden);
+        if (readable != 0 && chance(random, 300)) {
+            /* codes 3, 4 and 6 read a as well */
+            static const uint8_t codes[] = {3, 4, 6};
+            put_operation(row, index, codes[below(random, 3)], b, cell_of(random, readable), 0);
+        } else {
+            put_operation(row, index, code == 1 ? 2 : code, a, b, 0);
+        }
+    } else {
+        /* every cell is open to everything: make the first access a read */
+        put_access(row, 0, row[4], 1);
+        put_operation(row, index, 1, row[4], 0, constant(random));
+    }
+}
+
+void spoil_row(struct random *random, uint8_t *row, uint32_t number,
+               uint32_t workers, uint32_t cells)
+{
+    switch (number) {
+    case 6:
+        row[0] = from(random, workers);
+        break;
+    case 7:
+        spoil_counts(random, row);
+        break;
+    case 8:
+        spoil_access(random, row, cells);
+        break;
+    case 9:
+        name_twice(random, row);
+        break;
+    case 10:
+        spoil_operation(random, row, cells);
+        break;
+    default:
+        spoil_modes(random, row, cells);
+        break;
+    }
+}
+
+/* ---- faults of a block ------------------------------------------------- */
+
+/* Another value than the one there. */
+static void change_byte(struct random *random, uint8_t *at)
+{
+    static const uint8_t by[] = {1, 255, 128, 16};
+    uint32_t add = chance(random, 500) ? by[below(random, 4)] : between(random, 1, 255);
+    *at = (uint8_t)(*at + add);
+}
+
+/* Makes one of the two sums 0 by byte 509, which both count once. */
+static void make_sum_zero(uint8_t *block, const uint8_t *check)
+{
+    put_check(block);
+    block[509] = (uint8_t)((block[509] + 255u - *check) % 255);
+    put_check(block);
+}
+
+static void spoil_check(struct random *random, uint8_t *block)
+{
+    uint8_t *check = block + 510 + below(random, 2);
+    if (chance(random, 150)) {
+        /* "The stored byte must equal the sum, so 255 never matches." */
+        make_sum_zero(block, check);
+        *check = 255;
+    } else if (chance(random, 500)) {
+        change_byte(random, check);
+    } else {
+        /* a byte under the check: 0 and 255 count the same, so not those two */
+        uint8_t *at = block + below(random, 510);
+        uint8_t was = *at;
+        do {
+            *at = was;
+            change_byte(random, at);
+        } while (*at % 255 == was % 255);
+    }
+}
+
+static void spoil_head(struct random *random, uint8_t *block)
+{
+    static const uint8_t places[] = {0, 1, 2, 3, 4, 6, 7, 8, 9, 14, 15, 4, 6, 8};
+    change_byte(random, block + places[below(random, sizeof places)]);
+}
+
+static void put_tasks(uint8_t *file, uint32_t blocks, uint32_t tasks)
+{
+    for (uint32_t i = 0; i < blocks; i++) {
+        put_two(file + BLOCK_BYTES * i + 10, tasks);
+        put_check(file + BLOCK_BYTES * i);
+    }
+}
+
+static uint32_t tasks_outside(struct random *random)
+{
+    switch (below(random, 4)) {
+    case 0:
+        return 0;
+    case 1:
+        return 201;
+    case 2:
+        return 256 * between(random, 1, 255) + below(random, 201);
+    default:
+        return between(random, 201, 65535);
+    }
+}
+
+/* Another number of tasks, from 1 to 200, that needs as many blocks; or the
+   same if there is none. */
+static uint32_t tasks_beside(struct random *random, uint32_t blocks)
+{
+    return between(random, 10 * (blocks - 1) + 1, 10 * blocks);
+}
+
+/* A number of tasks from 1 to 200 that needs another number of blocks. */
+static uint32_t tasks_elsewhere(struct random *random, uint32_t blocks)
+{
+    uint32_t other = 1 + (blocks - 1 + between(random, 1, MOST_BLOCKS - 1)) % MOST_BLOCKS;
+    if (blocks > 1 && chance(random, 500))
+        return 10 * (blocks - 1);
+    return tasks_beside(random, other);
+}
+
+/* The rule that only block 0 can break, at block 0. */
+static void spoil_first_sizes(struct random *random, uint8_t *file, uint32_t blocks)
+{
+    uint32_t spread = chance(random, 500) ? blocks : 1;
+    switch (below(random, 5)) {
+    case 0:
+        put_tasks(file, spread, tasks_outside(random));
+        break;
+    case 1:
+        put_tasks(file, spread, tasks_elsewhere(random, blocks));
+        break;
+    case 2:
+        file[12] = chance(random, 300) ? 0 : from(random, MOST_WORKERS + 1);
+        break;
+    case 3:
+        file[13] = chance(random, 300) ? 0 : from(random, MOST_CELLS + 1);
+        break;
+    default:
+        change_byte(random, file + 5);
+        break;
+    }
+}
+
+/* A block after block 0 that says other sizes than block 0, or other rows. */
+static void spoil_later_sizes(struct random *random, uint8_t *file, uint32_t blocks,
+                              uint32_t index)
+{
+    uint8_t *block = file + BLOCK_BYTES * index;
+    uint32_t tasks = tasks_beside(random, blocks);
+
+    if (chance(random, 250)) {
+        change_byte(random, block + 5);
+    } else if (chance(random, 300) && tasks != get_two(block + 10)) {
+        put_two(block + 10, tasks);
+    } else if (index == 1 && chance(random, 400)) {
+        /* block 0 sets the sizes, so block 1 is the one at fault */
+        if (chance(random, 500))
+            file[12] = (uint8_t)(file[12] % MOST_WORKERS + 1);
+        else
+            file[13] = (uint8_t)(file[13] % MOST_CELLS + 1);
+        put_check(file);
+    } else {
+        static const uint8_t places[] = {10, 11, 12, 13};
+        change_byte(random, block + places[below(random, 4)]);
+    }
+}
+
+static void spoil_rest(struct random *random, uint8_t *block)
+{
+    uint32_t used_to = 16 + ROW_BYTES * (uint32_t)block[5];
+    uint32_t at;
+    if (used_to < 496 && chance(random, 700))
+        at = between(random, used_to, 495);
+    else
+        at = between(random, 496, 509);
+    if (chance(random, 200))
+        at = chance(random, 500) ? 509 : used_to;
+    block[at] = from(random, 1);
+}
+
+void spoil_block(struct random *random, uint8_t *file, uint32_t blocks,
+                 uint32_t index, uint32_t number)
+{
+    uint8_t *block = file + BLOCK_BYTES * index;
+    switch (number) {
+    case 2:
+        spoil_check(random, block);
+        return;
+    case 3:
+        spoil_head(random, block);
+        break;
+    case 4:
+        if (index == 0)
+            spoil_first_sizes(random, file, blocks);
+        else
+            spoil_later_sizes(random, file, blocks, index);
+        break;
+    default:
+        spoil_rest(random, block);
+        break;
+    }
+    put_check(block);
+}

@@ -1,0 +1,73 @@
+/*
+ * Flows and flow files for the tests, with no help from the code under test:
+ * the layout, the check and the rules of a row stand here once more, written
+ * from the scope document (01).
+ */
+#ifndef FLOWS_H
+#define FLOWS_H
+
+#include "random.h"
+
+#include <stddef.h>
+#include <stdint.h>
+
+enum {
+    MOST_TASKS = 200,
+    MOST_WORKERS = 8,
+    MOST_CELLS = 32,
+    ROW_BYTES = 48,
+    BLOCK_BYTES = 512,
+    MOST_BLOCKS = 20,
+    MOST_FILE = MOST_BLOCKS * BLOCK_BYTES
+};
+
+struct sample {
+    uint32_t tasks;
+    uint32_t workers;
+    uint32_t cells;
+    uint8_t rows[MOST_TASKS * ROW_BYTES];
+};
+
+/* Flow A of 01, "A flow on the bench". */
+void make_flow_a(struct sample *flow);
+
+/* A valid row: any owner, accesses, modes and operations that 01 allows.
+   Its cells are below `hot`, which is at most the flow's cells. */
+void make_row(struct random *random, uint8_t *row, uint32_t workers, uint32_t hot);
+
+/* A valid flow of these sizes. */
+void make_flow(struct random *random, struct sample *flow,
+               uint32_t tasks, uint32_t workers, uint32_t cells);
+
+/* The same, with four writes and six operations in every task: the largest
+   total for its sizes. Needs 4 cells. */
+void make_full_flow(struct random *random, struct sample *flow,
+                    uint32_t tasks, uint32_t workers, uint32_t cells);
+
+/* The flow's total, as 01 has it. */
+uint32_t total_of(const struct sample *flow);
+
+uint32_t blocks_of(uint32_t tasks);
+
+/* The row of a task, counted from 0, in a file. */
+uint8_t *row_in_file(uint8_t *file, uint32_t index);
+
+/* The file of a flow; answers its length. */
+size_t make_file(const struct sample *flow, uint8_t *file);
+
+/* Puts the check of a block right. */
+void put_check(uint8_t *block);
+
+/* Makes fault 6 to 11 in a row that has no fault of that number or a lower
+   one. After it that number is the first that the row has. */
+void spoil_row(struct random *random, uint8_t *row, uint32_t number,
+               uint32_t workers, uint32_t cells);
+
+/* Makes fault 2 to 5 in a block, in a file of `blocks` blocks that has no
+   fault at the blocks before it, nor one of that number or a lower one at
+   this block. After it that number is the first at that block, and the blocks
+   before it still have none. */
+void spoil_block(struct random *random, uint8_t *file, uint32_t blocks,
+                 uint32_t index, uint32_t number);
+
+#endif

@@ -1,0 +1,146 @@
+#define _DEFAULT_SOURCE
+
+#include "lent.h"
+
+#include <stdio.h>
+#include <stdlib.h>
+#include <string.h>
+#include <sys/mman.h>
+
+enum { PAGE = 4096, GUARD = 64 };
+
+static uint8_t guard_byte(size_t index)
+{
+    return (uint8_t)(0xa5 ^ index * 29);
+}
+
+/* Room between two pages that may not be touched. */
+static void open_lent(struct lent *lent, size_t room)
+{
+    size_t whole = (room + 3 * GUARD + PAGE - 1) / PAGE * PAGE;
+    uint8_t *pages = mmap(NULL, whole + 2 * PAGE, PROT_READ | PROT_WRITE,
+                          MAP_PRIVATE | MAP_ANONYMOUS, -1, 0);
+    if (pages == MAP_FAILED || mprotect(pages, PAGE, PROT_NONE) != 0 ||
+        mprotect(pages + PAGE + whole, PAGE, PROT_NONE) != 0) {
+        perror("memory for the tests");
+        exit(2);
+    }
+    lent->first = pages + PAGE;
+    lent->room = whole;
+}
+
+void open_memory(struct memory *memory)
+{
+    open_lent(&memory->input, ROOM_INPUT);
+    open_lent(&memory->output, ROOM_OUTPUT);
+    open_lent(&memory->schedule, ROOM_SCHEDULE);
+    open_lent(&memory->answer, 64);
+}
+
+/* The guard before the lent part is as long as there is room for, and so is
+   the one after it, up to GUARD bytes. */
+static size_t guard_before(const struct lent *lent)
+{
+    size_t before = (size_t)(lent->at - lent->first);
+    return before < GUARD ? before : GUARD;
+}
+
+static size_t guard_after(const struct lent *lent)
+{
+    size_t after = (size_t)(lent->first + lent->room - lent->at) - lent->length;
+    return after < GUARD ? after : GUARD;
+}
+
+static void lend(struct lent *lent, const void *bytes, size_t length,
+                 enum where where, size_t shift)
+{
+    lent->length = length;
+    if (where == AT_THE_END)
+        lent->at = lent->first + lent->room - length;
+    else
+        lent->at = lent->first + (where == AT_THE_START ? 0 : GUARD + shift);
+    if (bytes != NULL)
+        memcpy(lent->at, bytes, length);
+    else
+        memset(lent->at, 0xee, length);
+
+    size_t before = guard_before(lent);
+    size_t after = guard_after(lent);
+    for (size_t i = 0; i < before; i++)
+        lent->at[i - before] = guard_byte(i);
+    for (size_t i = 0; i < after; i++)
+        lent->at[length + i] = guard_byte(i);
+}
+
+static bool guards_hold(const struct lent *lent)
+{
+    size_t before = guard_before(lent);
+    size_t after = guard_after(lent);
+    for (size_t i = 0; i < before; i++)
+        if (lent->at[i - before] != guard_byte(i))
+            return false;
+    for (size_t i = 0; i < after; i++)
+        if (lent->at[lent->length + i] != guard_byte(i))
+            return false;
+    return true;
+}
+
+uint32_t answer_at(const struct memory *memory, uint32_t index)
+{
+    uint32_t word;
+    memcpy(&word, memory->answer.at + 4 * index, 4);
+    return word;
+}
+
+void call_case(const struct calls *calls, const struct test_case *given,
+               enum where where, size_t shift, struct memory *memory)
+{
+    /* cells and answers lie at multiples of four */
+    bool cells = given->call == CALL_PLAIN || given->call == CALL_RUN;
+    lend(&memory->input, given->input, given->input_len, where, shift);
+    lend(&memory->output, given->output, given->output_len, where, cells ? shift / 4 * 4 : shift);
+    lend(&memory->schedule, given->schedule, given->schedule_len, where, shift);
+    lend(&memory->answer, NULL, 4 * answer_words(given->call), where, shift / 4 * 4);
+
+    const uint8_t *input = memory->input.at;
+    uint8_t *output = memory->output.at;
+    void *answer = memory->answer.at;
+    switch (given->call) {
+    case CALL_CHECK:
+        memory->returned = calls->check(input, given->input_len, answer);
+        break;
+    case CALL_READ:
+        memory->returned = calls->read(input, given->input_len, output, given->output_len, answer);
+        break;
+    case CALL_WRITE:
+        memory->returned = calls->write(input, given->input_len, given->workers, given->cells,
+                                        output, given->output_len, answer);
+        break;
+    case CALL_PLAIN:
+        memory->returned = calls->plain(input, given->input_len, (uint32_t *)(void *)output,
+                                        given->output_len / 4, answer);
+        break;
+    default:
+        memory->returned = calls->run(input, given->input_len, (uint32_t *)(void *)output,
+                                      given->output_len / 4, memory->schedule.at,
+                                      given->schedule_len, answer);
+        break;
+    }
+}
+
+const char *misdeed(const struct memory *memory, const struct test_case *given)
+{
+    if (!guards_hold(&memory->input) || !guards_hold(&memory->output) ||
+        !guards_hold(&memory->schedule) || !guards_hold(&memory->answer))
+        return "wrote outside the memory that was lent";
+    if (memcmp(memory->input.at, given->input, given->input_len) != 0)
+        return "changed its input";
+    if (memcmp(memory->schedule.at, given->schedule, given->schedule_len) != 0)
+        return "changed the schedule";
+    if (memory->returned != answer_at(memory, 0))
+        return "returned another number than the one it answered";
+    if (memory->returned != 0 &&
+        memcmp(memory->output.at, given->output, given->output_len) != 0)
+        return "refused, and changed lent memory all the same";
+    return NULL;
+}

@@ -1,0 +1,25 @@
+/*
+ * The cases that the scope document (01) names, "A flow on the bench", with
+ * the answers it gives for them, and its limits.
+ */
+#ifndef NAMED_CASES_H
+#define NAMED_CASES_H
+
+#include "cases.h"
+
+struct named_case {
+    const char *name;
+    uint32_t call;
+    void (*make)(struct test_case *made); /* the file or the rows */
+    const char *schedule;                 /* a digit for each byte */
+    uint32_t start[3];
+    uint32_t answer[6];
+    uint32_t cells[3]; /* after the call */
+};
+
+extern const struct named_case named_cases[];
+extern const uint32_t named_case_count;
+
+void make_named_case(const struct named_case *from, struct test_case *made);
+
+#endif

@@ -1,0 +1,20 @@
+#!/usr/bin/env bash
+# Runs a program that test/build.sh built:
+#
+#     test/run.sh NAME [WORDS..]
+#
+# On an aarch64 machine it runs under the emulator that the Rattle kit ships,
+# where a time that is measured says nothing.
+set -euo pipefail
+top="$(cd "$(dirname "${BASH_SOURCE[0]}")/.." && pwd)"
+if [ $# -eq 0 ]; then
+    echo "run.sh: a name is needed: scope, differential, vectors or bench" >&2
+    exit 2
+fi
+program="$top/target/test/$1"
+shift
+if [ "$(uname -m)" = aarch64 ]; then
+    kit="$(dirname "$(dirname "$(rt doc)")")"
+    exec "$kit/on/aarch64/toolchain/bin/qemu-x86_64" "$program" "$@"
+fi
+exec "$program" "$@"

@@ -1,0 +1,95 @@
+/*
+ * The cases that the scope document (01) names, on the reference and, where it
+ * is linked, on the library. A line for each that goes wrong, then a count.
+ */
+#include "named_cases.h"
+#include "lent.h"
+
+#include <inttypes.h>
+#include <stdio.h>
+#include <string.h>
+
+static struct memory memory;
+static struct test_case made;
+static uint32_t failed;
+
+static void expect(bool right, const char *calls, const char *what)
+{
+    if (right)
+        return;
+    printf("%s: %s: wrong\n", calls, what);
+    failed++;
+}
+
+static bool as_written(const struct named_case *from)
+{
+    for (uint32_t i = 0; i < answer_words(made.call); i++)
+        if (answer_at(&memory, i) != from->answer[i])
+            return false;
+    if (made.call == CALL_PLAIN || made.call == CALL_RUN) {
+        size_t length = made.output_len < 12 ? made.output_len : 12;
+        return memcmp(memory.output.at, from->cells, length) == 0;
+    }
+    return true;
+}
+
+static void try_named_cases(const struct calls *calls)
+{
+    for (uint32_t i = 0; i < named_case_count; i++) {
+        make_named_case(&named_cases[i], &made);
+        call_case(calls, &made, IN_THE_MIDDLE, 0, &memory);
+        expect(as_written(&named_cases[i]) && misdeed(&memory, &made) == NULL, calls->name,
+               made.kind);
+    }
+}
+
+/* What is written is the file, and what is read are the rows. */
+static void try_flow_a(const struct calls *calls)
+{
+    struct sample flow;
+    uint8_t file[BLOCK_BYTES];
+    uint8_t bytes[BLOCK_BYTES] = {0};
+    sflw_write_answer written;
+    sflw_read_answer read;
+
+    make_flow_a(&flow);
+    size_t length = make_file(&flow, file);
+    calls->write(flow.rows, 3 * ROW_BYTES, 2, 3, bytes, sizeof bytes, &written);
+    expect(memcmp(bytes, file, length) == 0, calls->name, "the file of flow A");
+    memset(bytes, 0xee, sizeof bytes);
+    calls->read(file, length, bytes, sizeof bytes, &read);
+    expect(memcmp(bytes, flow.rows, 3 * ROW_BYTES) == 0, calls->name, "the rows of flow A");
+    expect(bytes[3 * ROW_BYTES] == 0xee, calls->name, "the rest stays");
+}
+
+/* P9, and the sums over "abcdef" and "abcdefgh" that are published with the
+   one over "abcde". */
+static void try_fletcher(void)
+{
+    static const uint8_t high[] = {255};
+    const uint8_t *letters = (const uint8_t *)"abcdefgh";
+    expect(ref_fletcher(letters, 0) == 0, "reference", "P9, no bytes");
+    expect(ref_fletcher(high, 1) == 0, "reference", "P9, the byte 255");
+    expect(ref_fletcher(letters, 5) == 240 + 256 * 200, "reference", "P9, abcde");
+    expect(ref_fletcher(letters, 6) == 0x2057, "reference", "abcdef");
+    expect(ref_fletcher(letters, 8) == 0x0627, "reference", "abcdefgh");
+}
+
+int main(void)
+{
+    static const struct calls reference = REFERENCE_CALLS;
+    const char *tried = "the reference";
+
+    open_memory(&memory);
+    try_named_cases(&reference);
+    try_flow_a(&reference);
+    try_fletcher();
+#ifdef WITH_LIBRARY
+    static const struct calls library = LIBRARY_CALLS;
+    try_named_cases(&library);
+    try_flow_a(&library);
+    tried = "the reference and the library";
+#endif
+    printf("the cases of 01 on %s: %" PRIu32 " wrong\n", tried, failed);
+    return failed == 0 ? 0 : 1;
+}
