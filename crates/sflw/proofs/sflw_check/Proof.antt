@@ -1,0 +1,14 @@
+-- `sflw_check`: the words are those of what was measured.
+use borrow.Author.Needs.{needs}
+use Rattle.sflw.proofs.Told as told
+use Rattle.sflw.proofs.sflw_check.Statement.{statement}
+use Rattle.sflw.proofs.sflw_check.Tie as tie
+
+measure-requires : tie.Need-measure-requires
+measure-requires c κs = search needs
+
+returns : tie.Need-returns
+returns c = told.checked (c .before .measure .ensures)
+
+pub sflw-check-spec : {M : Type 1} → statement M
+sflw-check-spec = tie.close (tie.spec measure-requires returns)

@@ -1,0 +1,85 @@
+// The calls for programs in C. Each fills the words of its answer, in the order of include/sflw.h, and returns the number.
+ghost use mathlib.Core.Path.{_≡_};
+ghost use Rattle.sflw.specs.Words.{Checked, Read, Written, Plain, Ran};
+
+// Checks a flow file: its sizes and its total.
+#[no_mangle]
+pub extern "C" fn sflw_check(file: &[u8], answer: &mut [u32; 6]) -> u32
+    ensures { λ r. ⌜ Checked (now (file .entry)) r (now (answer .exit)) ⌝ }
+{
+    let met = measure::measure(file);
+    *answer = [
+        met.number,
+        met.place,
+        met.tasks,
+        met.workers,
+        met.cells,
+        met.total,
+    ];
+    met.number
+}
+
+// Reads the rows out of a flow file.
+#[no_mangle]
+pub extern "C" fn sflw_read(file: &[u8], rows: &mut [u8], answer: &mut [u32; 6]) -> u32
+    ensures { λ r. ⌜ Read (now (file .entry)) (now (rows .entry)) r (now (rows .exit)) (now (answer .exit)) ⌝ }
+{
+    let met = file::read(file, rows);
+    *answer = [
+        met.number,
+        met.place,
+        met.bytes,
+        met.tasks,
+        met.workers,
+        met.cells,
+    ];
+    met.number
+}
+
+// Writes a flow file from rows.
+#[no_mangle]
+pub extern "C" fn sflw_write(
+    rows: &[u8],
+    workers: u32,
+    cells: u32,
+    out: &mut [u8],
+    answer: &mut [u32; 3],
+) -> u32
+    ensures { λ r. ⌜ Written (now (rows .entry)) workers cells (now (out .entry)) r (now (out .exit)) (now (answer .exit)) ⌝ }
+{
+    let met = file::write(rows, workers, cells, out);
+    *answer = [met.number, met.place, met.bytes];
+    met.number
+}
+
+// Runs a flow plainly.
+#[no_mangle]
+pub extern "C" fn sflw_plain(file: &[u8], cells: &mut [u32], answer: &mut [u32; 2]) -> u32
+    ensures { λ r. ⌜ Plain (now (file .entry)) (now (cells .entry)) r (now (cells .exit)) (now (answer .exit)) ⌝ }
+{
+    let told = run::plain(file, cells);
+    *answer = [told.number, told.place];
+    told.number
+}
+
+// Runs a flow under a schedule.
+#[no_mangle]
+pub extern "C" fn sflw_run(
+    file: &[u8],
+    cells: &mut [u32],
+    schedule: &[u8],
+    answer: &mut [u32; 6],
+) -> u32
+    ensures { λ r. ⌜ Ran (now (file .entry)) (now (cells .entry)) (now (schedule .entry)) r (now (cells .exit)) (now (answer .exit)) ⌝ }
+{
+    let told = run::run(file, cells, schedule);
+    *answer = [
+        told.number,
+        told.place,
+        told.advanced,
+        told.held,
+        told.done,
+        told.finished,
+    ];
+    told.number
+}
