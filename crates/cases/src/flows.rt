@@ -1,10 +1,10 @@
-// Flow A's rows, and the two files that the cases change: flow A's own, and one of two blocks with flow A's rows four times over.
+// Flow A's rows (01, "A flow on the bench").
 ghost use mathlib.Core.Path.{_≡_};
 ghost use Prim.Native.Nat.{_+_, _≤_};
 ghost use lib.ListN.{length};
 
 // Puts bytes at a place.
-pub(crate) fn lay(bytes: &mut [u8], at: usize, given: &[u8])
+fn lay(bytes: &mut [u8], at: usize, given: &[u8])
     requires { ⌜ at + length (now given) ≤ length (now bytes) ⌝ }
 {
     let end = at + given.len();
@@ -47,49 +47,13 @@ fn over_and_over(rows: &mut [u8]) {
     }
 }
 
-// Flow A's three rows, over and over, into bytes that are zero.
-pub(crate) fn rows(rows: &mut [u8])
-    requires { ⌜ 144 ≤ length (now rows) ⌝ }
-{
-    task_1(&mut rows[0..48]);
-    task_2(&mut rows[48..96]);
-    task_3(&mut rows[96..144]);
-    over_and_over(rows);
-}
-
-// Flow A's rows.
-pub(crate) fn rows_a() -> [u8; 144] {
-    let mut space = [0u8; 144];
-    rows(&mut space);
-    space
-}
-
-// As many rows as a flow may have.
-pub(crate) fn rows_of_200() -> [u8; 9600] {
-    let mut space = [0u8; 9600];
-    rows(&mut space);
-    space
-}
-
-// A row more.
-pub(crate) fn rows_of_201() -> [u8; 9648] {
+// Flow A's three rows, over and over: 201, one more than a flow may have.
+pub(crate) fn rows() -> [u8; 9648] {
     let mut space = [0u8; 9648];
-    rows(&mut space);
+    let all: &mut [u8] = &mut space;
+    task_1(&mut all[0..48]);
+    task_2(&mut all[48..96]);
+    task_3(&mut all[96..144]);
+    over_and_over(all);
     space
-}
-
-// Flow A's file.
-pub(crate) fn file_a(given: &[u8; 144]) -> [u8; 512] {
-    let mut file = [0u8; 512];
-    file::write(given, 2, 3, &mut file);
-    file
-}
-
-// A file of 12 tasks: ten rows in block 0 and two in block 1.
-pub(crate) fn file_of_two() -> [u8; 1024] {
-    let mut given = [0u8; 576];
-    rows(&mut given);
-    let mut file = [0u8; 1024];
-    file::write(&given, 2, 3, &mut file);
-    file
 }

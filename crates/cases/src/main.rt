@@ -1,27 +1,21 @@
-// Runs the cases of the flow file that stand in no table of theorems, and writes a line for each: its name, and what was answered.
-// The file stdout beside src/ has what 01 says to each.
-mod alone;
-mod blocks;
+// Runs cases of the flow file and writes a line for each: its name, and what was answered. Fletcher's vectors stand in vectors.rt;
+// the others are lines of the file stdin, which says how they are read. The file stdout has what 01 says to each.
 mod calls;
-mod damage;
 mod flows;
-mod lent;
-mod order;
-mod pair;
-mod place;
 mod say;
-mod tasks;
+mod text;
 mod vectors;
-mod whole;
+mod words;
 
 fn main() {
-    let rows = flows::rows_a();
-    let a = flows::file_a(&rows);
-    let two = flows::file_of_two();
     vectors::run();
-    whole::run(&rows, &a);
-    blocks::run(&a, &two);
-    tasks::run(&a, &two);
-    order::run(&a, &two);
-    calls::run(&rows, &a);
+    let rows = flows::rows();
+    let mut space = [0u8; 16384];
+    let lent: &mut [u8] = &mut space;
+    let size = io::read_full(0, lent);
+    if size == lent.len() {
+        say::text(b"more cases than there is room for\n");
+    }
+    let all = &lent[..];
+    words::each_line(&all[0..size], &rows);
 }

@@ -1,5 +1,4 @@
-// The lines: a case's name, then what was answered. Counts follow where one of them isn't zero, so that a line without them says
-// that all are.
+// What is written of an answer. Counts follow where one of them isn't zero, so that a line without them says that all are.
 use file::CheckAnswer;
 use file::ReadAnswer;
 use file::WriteAnswer;
@@ -9,28 +8,22 @@ pub(crate) fn text(words: &[u8]) {
     io::write_all(1, words);
 }
 
-fn decimal(n: u32) {
-    io::print_decimal(1, n as u64);
-}
-
 // A number after a space.
-pub(crate) fn spaced(n: u32) {
+pub(crate) fn number(n: u32) {
     text(b" ");
-    decimal(n);
+    io::print_decimal(1, n as u64);
 }
 
 // A number after its name.
 fn named(name: &[u8], n: u32) {
     text(b" ");
     text(name);
-    spaced(n);
+    number(n);
 }
 
 // The number and the place answered.
-fn answered(name: &[u8], number: u32, place: u32) {
-    text(name);
-    text(b": ");
-    decimal(number);
+fn answered(refusal: u32, place: u32) {
+    number(refusal);
     named(b"place", place);
 }
 
@@ -48,20 +41,19 @@ fn sizes(tasks: u32, workers: u32, cells: u32) {
     }
 }
 
-pub(crate) fn checked(name: &[u8], answer: CheckAnswer) {
-    answered(name, answer.number, answer.place);
+pub(crate) fn checked(answer: CheckAnswer) {
+    answered(answer.number, answer.place);
     sizes(answer.tasks, answer.workers, answer.cells);
-    text(b"\n");
 }
 
-pub(crate) fn read(name: &[u8], answer: ReadAnswer) {
-    answered(name, answer.number, answer.place);
+pub(crate) fn read(answer: ReadAnswer) {
+    answered(answer.number, answer.place);
     written_bytes(answer.bytes);
     sizes(answer.tasks, answer.workers, answer.cells);
 }
 
-pub(crate) fn written(name: &[u8], answer: WriteAnswer) {
-    answered(name, answer.number, answer.place);
+pub(crate) fn written(answer: WriteAnswer) {
+    answered(answer.number, answer.place);
     written_bytes(answer.bytes);
 }
 
@@ -83,4 +75,12 @@ pub(crate) fn sums(name: &[u8], sums: Sums) {
     named(b"A", sums.a);
     named(b"B", sums.b);
     text(b"\n");
+}
+
+pub(crate) fn each_byte(bytes: &[u8]) {
+    let mut i = 0;
+    while i < bytes.len() {
+        number(octets::wide(bytes[i]));
+        i += 1;
+    }
 }

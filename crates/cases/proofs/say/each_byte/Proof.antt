@@ -1,9 +1,9 @@
--- `whole::each_byte` is safe and ends. The invariant: i is at most the length.
+-- `say::each_byte` is safe and ends. The invariant: i is at most the length.
 use Prim.Native.Nat.{_≤_, _-_}
 use borrow.Author.Needs.{needs}
 use lib.ListN.{length}
-use Rattle.cases.proofs.whole.each_byte.Statement.{statement}
-use Rattle.cases.proofs.whole.each_byte.Tie as tie
+use Rattle.cases.proofs.say.each_byte.Statement.{statement}
+use Rattle.cases.proofs.say.each_byte.Tie as tie
 
 abbrev Inv-loop : tie.InvT-loop
 Inv-loop bytes i₀ i = i ≤ length bytes
@@ -20,8 +20,8 @@ shared-slice-read-wide c = search needs
 wide-requires : tie.Need-wide-requires Inv-loop μ-loop
 wide-requires c κs = search needs
 
-spaced-requires : tie.Need-spaced-requires Inv-loop μ-loop
-spaced-requires c κs = search needs
+number-requires : tie.Need-number-requires Inv-loop μ-loop
+number-requires c κs = search needs
 
 add-i : tie.Need-add-i Inv-loop μ-loop
 add-i c = search needs
@@ -44,7 +44,7 @@ each-byte-spec =
     loop-holds
     shared-slice-read-wide
     wide-requires
-    spaced-requires
+    number-requires
     add-i
     loop-less
     loop-again

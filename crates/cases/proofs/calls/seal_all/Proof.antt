@@ -1,10 +1,10 @@
--- `damage::seal_all` is safe and ends. The invariant: the blocks passed lie in the file, which keeps its length.
+-- `calls::seal_all` is safe and ends. The invariant: the blocks passed lie in the file, which keeps its length.
 use mathlib.Core.Path.{_≡_}
 use Prim.Native.Nat.{_≤_, _-_}
 use borrow.Author.Needs.{needs}
 use lib.ListN.{length}
-use Rattle.cases.proofs.damage.seal_all.Statement.{statement}
-use Rattle.cases.proofs.damage.seal_all.Tie as tie
+use Rattle.cases.proofs.calls.seal_all.Statement.{statement}
+use Rattle.cases.proofs.calls.seal_all.Tie as tie
 
 abbrev Inv-loop : tie.InvT-loop
 Inv-loop file₀ from₀ file from = (from ≤ length file₀) × (length file ≡ length file₀)
@@ -18,20 +18,20 @@ loop-holds c = search needs
 add-loop : tie.Need-add-loop Inv-loop μ-loop
 add-loop c = search needs
 
-add-seal : tie.Need-add-seal Inv-loop μ-loop
-add-seal c = search needs
+add-seal-block : tie.Need-add-seal-block Inv-loop μ-loop
+add-seal-block c = search needs
 
-sub-seal : tie.Need-sub-seal Inv-loop μ-loop
-sub-seal c = search needs
+sub-seal-block : tie.Need-sub-seal-block Inv-loop μ-loop
+sub-seal-block c = search needs
 
-part-seal-start : tie.Need-part-seal-start Inv-loop μ-loop
-part-seal-start c = search needs
+part-seal-block-start : tie.Need-part-seal-block-start Inv-loop μ-loop
+part-seal-block-start c = search needs
 
-part-seal-end : tie.Need-part-seal-end Inv-loop μ-loop
-part-seal-end c = search needs
+part-seal-block-end : tie.Need-part-seal-block-end Inv-loop μ-loop
+part-seal-block-end c = search needs
 
-seal-requires : tie.Need-seal-requires Inv-loop μ-loop
-seal-requires c κs = search needs
+seal-block-requires : tie.Need-seal-block-requires Inv-loop μ-loop
+seal-block-requires c κs = search needs
 
 add-from : tie.Need-add-from Inv-loop μ-loop
 add-from c = search needs
@@ -56,11 +56,11 @@ seal-all-spec =
     μ-loop
     loop-holds
     add-loop
-    add-seal
-    sub-seal
-    part-seal-start
-    part-seal-end
-    seal-requires
+    add-seal-block
+    sub-seal-block
+    part-seal-block-start
+    part-seal-block-end
+    seal-block-requires
     add-from
     loop-less
     loop-again

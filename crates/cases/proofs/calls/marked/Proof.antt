@@ -1,15 +1,14 @@
--- `lent::marked` is safe and ends. The invariant: i is at or past the start.
+-- `calls::marked` is safe and ends. The invariant: i is at or past the start.
 use Prim.Native.Nat.{_≤_, _-_}
 use borrow.Author.Needs.{needs}
-use lib.ListN.{length}
-use Rattle.cases.proofs.lent.marked.Statement.{statement}
-use Rattle.cases.proofs.lent.marked.Tie as tie
+use Rattle.cases.proofs.calls.marked.Statement.{statement}
+use Rattle.cases.proofs.calls.marked.Tie as tie
 
 abbrev Inv-loop : tie.InvT-loop
-Inv-loop bytes from i₀ i = from ≤ i
+Inv-loop bytes from to i₀ i = from ≤ i
 
 abbrev μ-loop : tie.MeasureT-loop
-μ-loop bytes from i₀ i = length bytes - i
+μ-loop bytes from to i₀ i = to - i
 
 loop-holds : tie.Need-loop-holds Inv-loop μ-loop
 loop-holds c = search needs

@@ -1,0 +1,148 @@
+// The cases, line by line and word by word. The head of the file stdin says what each word does.
+use crate::calls;
+use crate::calls::MARK;
+use crate::say;
+use crate::text;
+ghost use Prim.Native.Nat.{_<_};
+ghost use lib.ListN.{length};
+
+// What the words so far have set: the bytes of rows, the workers and cells, the bytes that are lent, the file's length, and
+// whether a file is made.
+pub(crate) struct Setting {
+    pub(crate) rows: usize,
+    pub(crate) workers: u32,
+    pub(crate) cells: u32,
+    pub(crate) into: usize,
+    pub(crate) length: usize,
+    pub(crate) made: bool,
+}
+
+impl Setting {
+    fn new() -> Setting {
+        Setting {
+            rows: 144,
+            workers: 2,
+            cells: 3,
+            into: 600,
+            length: 0,
+            made: false,
+        }
+    }
+
+    // A word with a name before the equals sign, by the name's first letter.
+    fn with(mut self, name: u8, n: u32) -> Setting {
+        match name {
+            b'r' => self.rows = octets::offset(n),
+            b'w' => self.workers = n,
+            b'c' => self.cells = n,
+            b'i' => self.into = octets::offset(n),
+            b'l' => self.length = octets::offset(n),
+            _ => {}
+        }
+        self
+    }
+
+    fn with_file(mut self, length: usize) -> Setting {
+        self.length = length;
+        self.made = true;
+        self
+    }
+}
+
+// Changes a byte, where there is one.
+fn put(bytes: &mut [u8], at: usize, byte: u8) {
+    if at < bytes.len() {
+        bytes[at] = byte;
+    }
+}
+
+// A word with an equals sign.
+fn assign(
+    word: &[u8],
+    equals: usize,
+    setting: Setting,
+    rows: &mut [u8; 9648],
+    file: &mut [u8; 10752],
+) -> Setting
+    requires { ⌜ equals < length (now word) ⌝ }
+{
+    let n = text::number(&word[equals + 1..]);
+    let first = word[0];
+    if !text::is_digit(first) {
+        return setting.with(first, n);
+    }
+    let at = octets::offset(text::number(&word[0..equals]));
+    if setting.made {
+        put(file, at, octets::low(n));
+    } else {
+        put(rows, at, octets::low(n));
+    }
+    setting
+}
+
+// A word without one, by its first letter.
+fn command(name: u8, setting: Setting, rows: &[u8], file: &mut [u8]) -> Setting {
+    match name {
+        b'f' => {
+            let length = calls::make(setting, rows, file);
+            return setting.with_file(length);
+        }
+        b's' => calls::seal(setting, file),
+        b'w' => calls::write(setting, rows, file),
+        b'c' => calls::check(setting, file),
+        b'r' => calls::read(setting, rows, file),
+        b'e' => calls::ends(file),
+        _ => {}
+    }
+    setting
+}
+
+fn word(word: &[u8], setting: Setting, rows: &mut [u8; 9648], file: &mut [u8; 10752]) -> Setting {
+    let equals = text::until(word, b'=');
+    if equals < word.len() {
+        return assign(word, equals, setting, rows, file);
+    }
+    if word.len() == 0 {
+        return setting;
+    }
+    command(word[0], setting, rows, file)
+}
+
+// The words of a case.
+fn each_word(words: &[u8], all: &[u8; 9648]) {
+    let mut rows = *all;
+    let mut file = [MARK; 10752];
+    let mut setting = Setting::new();
+    let mut from = 0;
+    while from < words.len() {
+        let rest = &words[from..];
+        let size = text::until(rest, b' ');
+        setting = word(&rest[0..size], setting, &mut rows, &mut file);
+        from += size + 1;
+    }
+}
+
+// A line: a case, or words for the reader after a number sign.
+fn line(line: &[u8], rows: &[u8; 9648]) {
+    if line.len() == 0 {
+        return;
+    }
+    if line[0] == b'#' {
+        return;
+    }
+    let colon = text::until(line, b':');
+    say::text(&line[0..colon]);
+    say::text(b":");
+    each_word(&line[colon..], rows);
+    say::text(b"\n");
+}
+
+pub(crate) fn each_line(text: &[u8], rows: &[u8; 9648]) {
+    let mut from = 0;
+    while from < text.len() {
+        let rest = &text[from..];
+        let size = text::until(rest, b'\n');
+        line(&rest[0..size], rows);
+        from += size + 1;
+    }
+}
