@@ -17,7 +17,8 @@ use Rattle.steps.specs.Step.{Setting, Outcome, advanced, step}
 use Rattle.steps.specs.Run.{Run, counted, runFrom, run, finished}
 use Rattle.steps.specs.Answers.{Told, plainAnswer, plainCells, runAnswer, runTold, runCells}
 use Rattle.steps.specs.Demand.{Demand3}
-use Rattle.steps.proofs.Theorems.{holds}
+use Rattle.steps.proofs.Longer.{longer-accepted}
+use Rattle.steps.proofs.Theorems.{holds, history-leaves}
 use Rattle.run.specs.declared.PlainAnswer.{PlainAnswer}
 use Rattle.run.specs.declared.RunAnswer.{RunAnswer}
 use Rattle.run.specs.Promises.{PlainPromise, RunPromise}
@@ -106,6 +107,18 @@ module _ (file cells schedule : List ℕ) (r : RunAnswer) (after : List ℕ) (pr
       let left = fails _ (flowOf file .workers) (λ w. w) (told-false _ (sym told-finished ∙ e)) in
       (left .0, left .1, leb-false _ _ (left .2))
 
+-- a worker's byte more is accepted, where there is room for it
+taken-more : (file cells schedule : List ℕ) (r s : RunAnswer) (after s-after : List ℕ) (w : ℕ) → RunPromise file cells schedule r after
+    → r .number ≡ 0
+    → length schedule < 65536
+    → w < flowOf file .workers
+    → RunPromise file cells (schedule ++ w ∷ []) s s-after
+    → s .number ≡ 0
+unfolding runTold
+taken-more file cells schedule r s after s-after w promised taken room below more =
+    ap (λ (a : RunAnswer). a .number) (more .answer)
+    ∙ longer-accepted file cells schedule w (accepted file cells schedule r after promised taken) room below
+
 -- one step more of a worker whose step advances
 advanced-more : (file cells schedule : List ℕ) (r s : RunAnswer) (after s-after : List ℕ) (w : ℕ) → RunPromise file cells schedule r after
     → r .number ≡ 0
@@ -130,13 +143,20 @@ run-demand file cells schedule r after promised taken =
     record {
       advanced-are = same;
       cells-are = stepped-cells file cells schedule r after promised taken;
+      cells-made = stepped-cells file cells schedule r after promised taken ∙ history-leaves file cells schedule (accepted file cells schedule r after promised taken);
       declared = three .declared;
       in-order = three .in-order;
       progress =
-          λ e.
+          λ e room.
           let left = some-left file cells schedule r after promised taken e in
-          let next = three .progress (left .0) (left .1) (left .2) in
-          (next .0, next .1, λ s s-after more more-taken. advanced-more file cells schedule r s after s-after (next .0) promised taken (next .2) more more-taken);
+          let next = three .progress (left .0) (left .1) (left .2) in (
+            next .0,
+            next .1,
+            λ s s-after more.
+                let more-taken : s .number ≡ 0 =
+                taken-more file cells schedule r s after s-after (next .0) promised taken room (next .1) more in
+                (more-taken, advanced-more file cells schedule r s after s-after (next .0) promised taken (next .2) more more-taken),
+          );
       at-most = promised .bounded;
       exactly = (
         λ e. same ∙ three .total .exactly .0 (is-finished file cells schedule r after promised taken e),

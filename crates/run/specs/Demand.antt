@@ -4,9 +4,11 @@ use mathlib.Core.Path.{_≡_}
 use mathlib.Core.Logic.{_↔_}
 use mathlib.Core.List.{List, [], _∷_, _++_}
 use Prim.Native.Nat.{ℕ, _+_, _<_, _≤_}
+use lib.ListN.{length}
 use Rattle.layout.specs.File.{flowOf}
 use Rattle.steps.specs.Step.{Setting}
 use Rattle.steps.specs.Run.{run, settingOf, total}
+use Rattle.steps.specs.History.{afterHistory}
 use Rattle.steps.specs.Demand.{history, OnlyDeclared, InOrder}
 use Rattle.run.specs.declared.PlainAnswer.{PlainAnswer}
 use Rattle.run.specs.declared.RunAnswer.{RunAnswer}
@@ -20,14 +22,15 @@ pub record RunDemand (file cells schedule : List ℕ) (r : RunAnswer) (after : L
   -- the count and the cells are those of the steps that the theorems speak of
   pub advanced-are : r .advanced ≡ run (flowIn file) cells schedule .advanced
   pub cells-are : after ≡ run (flowIn file) cells schedule .machine .cells
-  -- a. and b. of the operations that made them
+  -- a. and b. of the operations that made them, and no others did
+  pub cells-made : after ≡ afterHistory (flowIn file) (history (flowIn file) cells schedule) cells
   pub declared : OnlyDeclared (flowIn file) (history (flowIn file) cells schedule)
   pub in-order : InOrder (flowIn file) (history (flowIn file) cells schedule)
-  -- c. where it answers that it has not finished, there is a worker that, named next, makes the count one more
-  pub progress : r .finished ≡ 0
+  -- c. where it answers that it has not finished, and the schedule may be longer, there is a worker that, named next, makes the count one more
+  pub progress : r .finished ≡ 0 → length schedule < 65536
       → (w : ℕ) × (w < flowOf file .workers)
-      × ((s : RunAnswer) (s-after : List ℕ) → RunPromise file cells (schedule ++ w ∷ []) s s-after → s .number ≡ 0
-      → s .advanced ≡ r .advanced + 1)
+      × ((s : RunAnswer) (s-after : List ℕ) → RunPromise file cells (schedule ++ w ∷ []) s s-after
+      → (s .number ≡ 0) × (s .advanced ≡ r .advanced + 1))
   -- d.
   pub at-most : r .advanced ≤ total (flowOf file)
   pub exactly : (r .finished ≡ 1) ↔ (r .advanced ≡ total (flowOf file))

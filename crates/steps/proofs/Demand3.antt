@@ -14,7 +14,7 @@ use Rattle.steps.specs.Machine.{Machine}
 use Rattle.steps.specs.Plain.{afterTasks}
 use Rattle.steps.specs.Step.{Setting, ownSteps}
 use Rattle.steps.specs.Run.{Run, run, finished}
-use Rattle.steps.specs.History.{Made}
+use Rattle.steps.specs.History.{Made, madeBy, afterHistory}
 use Rattle.steps.specs.Conflict.{taskAt, AllKeep, TellsApart, ReadsOnly}
 use Rattle.steps.specs.Demand.{Demand3, history}
 use Rattle.steps.proofs.Advance.{progress}
@@ -22,6 +22,7 @@ use Rattle.steps.proofs.Along.{Names, afterStep, freshRun, counted-mach
 use Rattle.steps.proofs.Cells.{CellsKept, cells-fresh, cells-step}
 use Rattle.steps.proofs.Complete.{operationsMade}
 use Rattle.steps.proofs.Invariant.{Kept, kept-fresh, kept-step}
+use Rattle.steps.proofs.Leaves.{leaves-on, leaves}
 use Rattle.steps.proofs.OwnMade.{made-past}
 use Rattle.steps.proofs.Sides.{own-length}
 use Rattle.steps.proofs.Told.{Told, told-fresh, told-step}
@@ -60,23 +61,31 @@ module _ (s : Setting) (workers : ℕ) (start schedule : List ℕ) (asked : Aske
   record Tells (entries : List Made) (r : Run) : Type 0 where
     kept : Kept s (r .machine)
     told : Told s entries (r .machine)
+    left : r .machine .cells ≡ afterHistory s entries start
 
   tells : Tells (history s start schedule) (run s start schedule)
+  unfolding afterHistory
   tells =
       along-history s workers Tells
       (λ entries before w h t.
       record {
         kept = rw counted-machine (kept-step s workers (length start) (asked .keep) (asked .apart) (before .machine) w (t .kept));
         told = rw counted-machine (told-step s workers (length start) (asked .keep) (asked .modes) entries (before .machine) w (t .kept) (t .told));
+        left = rw counted-machine (leaves s (before .machine) w (t .kept .standing .each-worker w)
+            ∙ ap (afterHistory s (madeBy s (before .machine) w)) (t .left) ∙ sym (leaves-on s entries (madeBy s (before .machine) w) start));
       })
       []
       (freshRun s start)
       (record {
         kept = kept-fresh s workers (length start) (asked .keep) (asked .apart) start;
         told = told-fresh s workers (length start) (asked .keep) (asked .modes) start;
+        left = refl;
       })
       schedule
       (asked .names)
+
+  pub cells-left : run s start schedule .machine .cells ≡ afterHistory s (history s start schedule) start
+  cells-left = tells .left
 
   -- once all workers are past the last task, all tasks have made all of their operations
   all-made : finished workers (s .tasks) (run s start schedule .machine) ≡ true → (j : ℕ) → j < length (s .tasks)

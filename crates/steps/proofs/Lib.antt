@@ -8,6 +8,8 @@ pub mod Complete
 pub mod Demand3
 pub mod Invariant
 pub mod Kind
+pub mod Leaves
+pub mod Longer
 pub mod Modes
 pub mod Named
 pub mod Naming

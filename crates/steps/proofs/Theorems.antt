@@ -11,11 +11,12 @@ use Rattle.layout.specs.File.{flowOf}
 use Rattle.steps.specs.Step.{Setting}
 use Rattle.steps.specs.Run.{run, settingOf}
 use Rattle.steps.specs.Answers.{runAnswer}
+use Rattle.steps.specs.History.{afterHistory}
 use Rattle.steps.specs.Conflict.{namesCell, declaresWritten, Conflict}
 use Rattle.steps.specs.Demand.{history, numbered, OnlyDeclared, InOrder, Progress, Total, Values, Demand3}
 use Rattle.steps.specs.Auditor.{NeverEarly}
 use Rattle.steps.proofs.Accepted.{asked}
-use Rattle.steps.proofs.Demand3.{demand-3}
+use Rattle.steps.proofs.Demand3.{demand-3, cells-left}
 use Rattle.steps.proofs.Naming.{written-named}
 use Rattle.steps.proofs.Reading.{reads-plain}
 
@@ -37,6 +38,10 @@ module _ (file cells schedule : List ℕ) (accepted : runAnswer file cells sched
   -- b. where two tasks name one cell and at least one declares it written, no operation of the later stands in the history before all of the earlier
   pub in-order : InOrder flow (history flow cells schedule)
   in-order = holds .in-order
+
+  -- the history is all that the cells have seen: they are what its operations leave, one after another
+  pub history-leaves : run flow cells schedule .machine .cells ≡ afterHistory flow (history flow cells schedule) cells
+  history-leaves = cells-left flow workers cells schedule (asked file cells schedule accepted)
 
   -- c. while a worker has tasks left, there is a worker whose step, if named next, advances
   pub progress : Progress flow workers (run flow cells schedule .machine)

@@ -6,6 +6,8 @@ use Prim.Native.Nat.{ℕ, _+_, _-_}
 use lib.ListN.{length, drop}
 use lib.Dec.{eqb}
 use Rattle.layout.specs.Flow.{Task}
+use Rattle.steps.specs.Operations.{operated}
+use Rattle.steps.specs.Conflict.{taskAt, operationOf}
 use Rattle.steps.specs.Machine.{Place, Machine}
 use Rattle.steps.specs.Step.{Setting, Try, waitWrite, waitReads, operate, endRead, zeroReads, postWrite, waits, ofEach, ownSteps, Stepped, step}
 
@@ -39,3 +41,9 @@ madeBy s m w = madeFrom m w (drop (m .places w .passed) (s .tasks))
 unfoldable pub historyFrom : Setting → Machine → List ℕ → List Made
 historyFrom s m [] = []
 historyFrom s m (w ∷ schedule) = madeBy s m w ++ historyFrom s (step s m w .machine) schedule
+
+-- the cells after the operations of a history, one after another
+unfoldable pub afterHistory : Setting → List Made → List ℕ → List ℕ
+afterHistory s [] cells = cells
+afterHistory s (e ∷ entries) cells =
+    afterHistory s entries (operated (s .does) (operationOf (taskAt (s .tasks) (e .task - 1)) (e .index)) cells)
