@@ -8,6 +8,7 @@ pub mod Run
 pub mod History
 pub mod Answers
 pub mod Bench
+pub mod Errors
 pub mod Conflict
 pub mod Demand
 pub mod Auditor
