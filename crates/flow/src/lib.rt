@@ -33,6 +33,11 @@ impl Flow {
 
     pub const MAX_SCHEDULE: usize = 65536;
 
+    // The lengths of arrays with a place for each worker or cell that a flow can have.
+    pub const ROOM_FOR_WORKERS: usize = Flow::MAX_WORKERS as usize;
+
+    pub const ROOM_FOR_CELLS: usize = Flow::MAX_CELLS as usize;
+
     // A flow of these sizes, refused where one of them is outside the limits.
     pub fn new(tasks: u32, workers: u32, cells: u32) -> Made
         ensures { λ r. ⌜ statedBy r ≡ askedFor tasks workers cells ⌝ }

@@ -1,7 +1,8 @@
 // One step of a named worker: whether it is held, what it changes, and its next place.
 use crate::Outcome;
-use crate::Place;
+use crate::Places;
 use crate::Row;
+use crate::Rows;
 use crate::counters::is_write;
 use crate::counters::note;
 use crate::counters::register;
@@ -18,7 +19,7 @@ ghost use Rattle.machine.specs.Arrays.{arrays, machineOf, passedAt, stag
 ghost use Rattle.machine.specs.Outcomes.{outcomeOf};
 
 // Whether the own step at a stage and an index is held, and why.
-fn held(row: &[u8], w: usize, stage: u32, index: u32, shared: &Row, private: &[Row; 8]) -> Outcome
+fn held(row: &[u8], w: usize, stage: u32, index: u32, shared: &Row, private: &Rows) -> Outcome
     requires { ⌜ (length (now row) ≡ 48) × (w < 8) ⌝ }
     requires { ⌜ (stage < 2 → (index < 4) × (accessAt (now row) index .cell < 32)) ⌝ }
     ensures { λ r. ⌜ outcomeOf r ≡ outcome (machineOf [] (arrays [] (now (shared .entry)) (now («private» .entry)) [])) w (tryAt (now (row .entry)) stage index) ⌝ }
@@ -49,7 +50,7 @@ fn change(
     index: u32,
     cells: &mut [u32],
     shared: &mut Row,
-    private: &mut [Row; 8],
+    private: &mut Rows,
 )
     requires { ⌜ RowFits (now row) (length (now cells)) × Stands (now row) stage index × (w < 8) ⌝ }
     requires { ⌜ Shape (now shared) (now «private») × ReadsAtMost 300000 (machineOf [] (arrays [] (now shared) (now «private») [])) ⌝ }
@@ -85,8 +86,8 @@ fn own_step(
     w: usize,
     cells: &mut [u32],
     shared: &mut Row,
-    private: &mut [Row; 8],
-    places: &mut [Place; 8],
+    private: &mut Rows,
+    places: &mut Places,
 ) -> Outcome
     requires { ⌜ RowFits (now row) (length (now cells)) × (w < 8) × (length (now places) ≡ 8) × (getD (getD (now places) w []) 0 0 < 200) ⌝ }
     requires { ⌜ Stands (now row) (getD (getD (now places) w []) 1 0) (getD (getD (now places) w []) 2 0) ⌝ }
@@ -111,8 +112,8 @@ pub fn step(
     w: usize,
     cells: &mut [u32],
     shared: &mut Row,
-    private: &mut [Row; 8],
-    places: &mut [Place; 8],
+    private: &mut Rows,
+    places: &mut Places,
 ) -> Outcome
     requires { ⌜ Sound (now file) tasks (arrays (now cells) (now shared) (now «private») (now places)) × (w < 8) ⌝ }
     requires { ⌜ ReadsAtMost 300000 (machineOf (tasksIn (now file) tasks) (arrays (now cells) (now shared) (now «private») (now places))) ⌝ }

@@ -80,7 +80,7 @@ fn accesses_sound(row: &[u8], cells: u32) -> bool
 }
 
 // 9: no cell is named twice among the accesses. Each access, from the last to the first, goes into the table of modes.
-fn named_once(row: &[u8], modes: &mut [u8; 32]) -> bool
+fn named_once(row: &[u8], modes: &mut [u8; Flow::ROOM_FOR_CELLS]) -> bool
     requires { ⌜ length (now row) ≡ 48 ⌝ }
     requires { ⌜ countsSound (now row) ≡ true ⌝ }
     requires { ⌜ all (accessInRange 32) (taskOf (now row) .accesses) ≡ true ⌝ }
@@ -158,7 +158,7 @@ fn keeps_modes(code: u8, of_a: u8, of_b: u8) -> bool
 }
 
 // 11: every operation keeps to the modes. From then on the cell that it wrote may be read.
-fn all_keep_modes(row: &[u8], modes: &mut [u8; 32]) -> bool
+fn all_keep_modes(row: &[u8], modes: &mut [u8; Flow::ROOM_FOR_CELLS]) -> bool
     requires { ⌜ length (now row) ≡ 48 ⌝ }
     requires { ⌜ countsSound (now row) ≡ true ⌝ }
     requires { ⌜ operationsSound 32 (now row) ≡ true ⌝ }
@@ -194,7 +194,7 @@ pub fn refusal(row: &[u8], workers: u32, cells: u32) -> u32
     if !accesses_sound(row, cells) {
         return 8;
     }
-    let mut modes = [0u8; 32];
+    let mut modes = [0u8; Flow::ROOM_FOR_CELLS];
     if !named_once(row, &mut modes) {
         return 9;
     }

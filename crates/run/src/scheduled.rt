@@ -42,9 +42,9 @@ fn walk(file: &[u8], tasks: u32, workers: u32, cells: &mut [u32], schedule: &[u8
     requires { ⌜ ((i : ℕ) → i < length (now schedule) → getD (now schedule) i 0 < workers) ⌝ }
     ensures { λ r. ⌜ Walked (tasksIn (now (file .entry)) tasks) workers (now (cells .entry)) (now (schedule .entry)) r (now (cells .exit)) ⌝ }
 {
-    let mut shared = [[0u32; 2]; 32];
-    let mut private = [[[0u32; 2]; 32]; 8];
-    let mut places = [[0u32; 3]; 8];
+    let mut shared = [[0u32; 2]; Flow::ROOM_FOR_CELLS];
+    let mut private = [[[0u32; 2]; Flow::ROOM_FOR_CELLS]; Flow::ROOM_FOR_WORKERS];
+    let mut places = [[0u32; 3]; Flow::ROOM_FOR_WORKERS];
     let mut advanced: u32 = 0;
     let mut held: u32 = 0;
     let mut i = 0;

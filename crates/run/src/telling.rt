@@ -1,5 +1,5 @@
 // What is told of a run once its schedule is over: the done tasks, and whether all workers are past the last.
-use machine::Place;
+use machine::Places;
 ghost use mathlib.Core.Path.{_≡_};
 ghost use mathlib.Core.Bool.{cond};
 ghost use mathlib.Core.List.{[]};
@@ -11,7 +11,7 @@ ghost use Rattle.steps.specs.Run.{doneTasks};
 ghost use Rattle.machine.specs.Arrays.{arrays, machineOf, Ready, Standing, tasksIn};
 
 // How many tasks are done: the owner is past the task, or at it and past its last operation.
-pub fn done_tasks(file: &[u8], tasks: u32, cells: usize, places: &[Place; 8]) -> u32
+pub(crate) fn done_tasks(file: &[u8], tasks: u32, cells: usize, places: &Places) -> u32
     requires { ⌜ Ready (now file) tasks cells × Standing (now file) tasks (now places) × (length (now places) ≡ 8) ⌝ }
     ensures { λ r. ⌜ r ≡ doneTasks (tasksIn (now (file .entry)) tasks) (machineOf (tasksIn (now (file .entry)) tasks) (arrays [] [] [] (now (places .entry)))) ⌝ }
 {
@@ -30,7 +30,7 @@ pub fn done_tasks(file: &[u8], tasks: u32, cells: usize, places: &[Place; 8]) ->
 }
 
 // 1 where all workers are past the last task.
-pub fn all_past(workers: u32, tasks: u32, places: &[Place; 8]) -> u32
+pub(crate) fn all_past(workers: u32, tasks: u32, places: &Places) -> u32
     requires { ⌜ workers ≤ 8 ⌝ }
     ensures { λ r. ⌜ r ≡ cond (all (λ w. leb tasks (getD (getD (now (places .entry)) w []) 0 0)) (each workers (λ w. w))) 1 0 ⌝ }
 {

@@ -11,20 +11,20 @@ fn end() {
     io::write_all(STDOUT_FILENO, b"\n");
 }
 
-pub fn refused(number: u32, place: u32) {
+pub(crate) fn refused(number: u32, place: u32) {
     pair(b"refused ", number);
     pair(b" place ", place);
     end();
 }
 
-pub fn sizes(tasks: u32, workers: u32, cells: u32) {
+pub(crate) fn sizes(tasks: u32, workers: u32, cells: u32) {
     pair(b"tasks ", tasks);
     pair(b" workers ", workers);
     pair(b" cells ", cells);
     end();
 }
 
-pub fn told(finished: u32, advanced: u32, held: u32, done: u32) {
+pub(crate) fn told(finished: u32, advanced: u32, held: u32, done: u32) {
     pair(b"finished ", finished);
     pair(b" advanced ", advanced);
     pair(b" held ", held);
@@ -33,7 +33,7 @@ pub fn told(finished: u32, advanced: u32, held: u32, done: u32) {
 }
 
 // A line for each cell with its number and value.
-pub fn cells(values: &[u32]) {
+pub(crate) fn cells(values: &[u32]) {
     let mut i = 0;
     while i < values.len() {
         io::print_decimal(STDOUT_FILENO, i as u64);
