@@ -5,7 +5,7 @@
 #
 # FOLDER has libsflw.a, and sflw.h if it is not the one of include/; without
 # it target/staticlib is taken. Where there is no libsflw.a only the programs
-# that need none are built: scope and vectors.
+# that need none are built: scope, vectors and errors.
 #
 # The library is x86-64 code. On an aarch64 machine all is built for x86-64
 # with Debian's cross compiler, which is installed if it is missing, and
@@ -57,6 +57,7 @@ build() {
 }
 
 build vectors
+build errors
 if [ -e "$folder/libsflw.a" ]; then
     build scope -DWITH_LIBRARY "$folder/libsflw.a"
     build differential "$folder/libsflw.a"
