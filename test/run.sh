@@ -8,7 +8,7 @@
 set -euo pipefail
 top="$(cd "$(dirname "${BASH_SOURCE[0]}")/.." && pwd)"
 if [ $# -eq 0 ]; then
-    echo "run.sh: a name is needed: scope, differential, vectors or bench" >&2
+    echo "run.sh: a name is needed: scope, differential, vectors, errors or bench" >&2
     exit 2
 fi
 program="$top/target/test/$1"
