@@ -6,7 +6,7 @@ ghost use Rattle.layout.specs.Row.{operationAt};
 ghost use Rattle.steps.specs.Operations.{becomes, effect, operated};
 
 // The value that cell a becomes, by the code, out of k and of the values of a and b.
-pub fn value(code: u8, k: u32, a: u32, b: u32) -> u32
+pub(crate) fn value(code: u8, k: u32, a: u32, b: u32) -> u32
     ensures { λ r. ⌜ r ≡ becomes code k a b ⌝ }
 {
     match code {

@@ -44,7 +44,7 @@ fn after_operation(row: &[u8], passed: u32, index: u32) -> Place
 }
 
 // The next place.
-pub fn next(row: &[u8], passed: u32, stage: u32, index: u32) -> Place
+pub(crate) fn next(row: &[u8], passed: u32, stage: u32, index: u32) -> Place
     requires { ⌜ (length (now row) ≡ 48) × (passed < 200) × (stage < 5) × (index < 6) ⌝ }
     requires { ⌜ ((stage ≡ 2 → ⊥) → index < 4) ⌝ }
     ensures { λ r. ⌜ r ≡ nextPlace (now (row .entry)) passed stage index ⌝ }
