@@ -1,0 +1,76 @@
+// Runs the stored cases of the test that holds the library against the reference in C, and says how many held and how many
+// differed. The file stdin has the cases; test/vectors.c writes it, and says at its head how a case is laid out.
+mod calls;
+mod case;
+mod head;
+mod numbers;
+mod say;
+mod stream;
+mod tally;
+
+use case::Outcome;
+use head::Head;
+use tally::Tally;
+
+// What is said of a case that did not hold; whether the cases end with it.
+fn ends(index: u32, call: u32, outcome: Outcome) -> bool {
+    match outcome {
+        Outcome::Held => false,
+        Outcome::OtherAnswer => {
+            say::differs(index, call, b"in its answer");
+            false
+        }
+        Outcome::OtherBytes => {
+            say::differs(index, call, b"in the lent bytes");
+            false
+        }
+        Outcome::Damaged => {
+            say::unusable(index, b"is damaged");
+            true
+        }
+        Outcome::CutOff => {
+            say::unusable(index, b"is cut off");
+            true
+        }
+    }
+}
+
+// The end of the data, and with it what is said of all cases.
+fn finish(tally: Tally) {
+    let mut space = [0u8; 1];
+    let rest = stream::take(&mut space, 1);
+    if rest.len() != 0 {
+        say::line(b"there is data after the last case");
+        return;
+    }
+    tally.say();
+}
+
+fn each_case(count: u32) {
+    let mut input = [0u8; head::ROOM];
+    let mut lent = [0u8; head::ROOM];
+    let mut after = [0u8; head::ROOM];
+    let mut schedule = [0u8; head::ROOM_SCHEDULE];
+    let mut tally = Tally::new();
+    let mut index = 0;
+    while index < count {
+        let head = Head::next();
+        let outcome = case::run(head, &mut input, &mut lent, &mut after, &mut schedule);
+        if ends(index, head.call, outcome) {
+            return;
+        }
+        tally = tally.with(head, outcome);
+        index += 1;
+    }
+    finish(tally);
+}
+
+fn main() {
+    let mut space = [0u8; 4];
+    let bytes = stream::take(&mut space, 4);
+    if bytes.len() < 4 {
+        say::line(b"there are no cases");
+        return;
+    }
+    each_case(numbers::number(bytes, 0));
+}
