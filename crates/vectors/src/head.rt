@@ -4,7 +4,9 @@ use crate::stream;
 ghost use Prim.Native.Nat.{_≤_};
 
 pub(crate) const ROOM: usize = 16384;
+
 pub(crate) const ROOM_SCHEDULE: usize = 70000;
+
 const SIZE: usize = 52;
 
 pub(crate) struct Head {
