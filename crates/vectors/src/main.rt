@@ -16,12 +16,8 @@ use tally::Tally;
 fn ends(index: u32, call: u32, outcome: Outcome) -> bool {
     match outcome {
         Outcome::Held => false,
-        Outcome::OtherAnswer => {
-            say::differs(index, call, b"in its answer");
-            false
-        }
-        Outcome::OtherBytes => {
-            say::differs(index, call, b"in the lent bytes");
+        Outcome::Differed => {
+            say::differs(index, call);
             false
         }
         Outcome::Damaged => {
@@ -47,15 +43,11 @@ fn finish(tally: Tally) {
 }
 
 fn each_case(count: u32) {
-    let mut input = [0u8; head::ROOM];
-    let mut lent = [0u8; head::ROOM];
-    let mut after = [0u8; head::ROOM];
-    let mut schedule = [0u8; head::ROOM_SCHEDULE];
     let mut tally = Tally::new();
     let mut index = 0;
     while index < count {
         let head = Head::next();
-        let outcome = case::run(head, &mut input, &mut lent, &mut after, &mut schedule);
+        let outcome = case::run(head);
         if ends(index, head.call, outcome) {
             return;
         }

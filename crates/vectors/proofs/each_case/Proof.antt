@@ -1,16 +1,14 @@
--- `each_case` is safe and ends. The invariant: the rooms keep their lengths.
-use mathlib.Core.Path.{_≡_}
+-- `each_case` is safe and ends: the index stays at most the count.
 use Prim.Native.Nat.{_≤_, _-_}
 use borrow.Author.Needs.{needs}
-use lib.ListN.{length}
 use Rattle.vectors.proofs.each_case.Statement.{statement}
 use Rattle.vectors.proofs.each_case.Tie as tie
 
 abbrev Inv-loop : tie.InvT-loop
-Inv-loop count input₀ lent₀ after₀ schedule₀ tally₀ index₀ input lent after schedule tally index = (16384 ≡ length input) × (16384 ≡ length lent) × (16384 ≡ length after) × (70000 ≡ length schedule)
+Inv-loop count tally₀ index₀ tally index = index ≤ count
 
 abbrev μ-loop : tie.MeasureT-loop
-μ-loop count input₀ lent₀ after₀ schedule₀ tally₀ index₀ input lent after schedule tally index = count - index
+μ-loop count tally₀ index₀ tally index = count - index
 
 new-requires : tie.Need-new-requires Inv-loop μ-loop
 new-requires c κs = search needs
@@ -20,18 +18,6 @@ loop-holds c = search needs
 
 next-requires : tie.Need-next-requires Inv-loop μ-loop
 next-requires c κs = search needs
-
-slice-aggregate-run : tie.Need-slice-aggregate-run Inv-loop μ-loop
-slice-aggregate-run c = search needs
-
-slice-aggregate-run-2 : tie.Need-slice-aggregate-run-2 Inv-loop μ-loop
-slice-aggregate-run-2 c = search needs
-
-slice-aggregate-run-3 : tie.Need-slice-aggregate-run-3 Inv-loop μ-loop
-slice-aggregate-run-3 c = search needs
-
-slice-aggregate-run-4 : tie.Need-slice-aggregate-run-4 Inv-loop μ-loop
-slice-aggregate-run-4 c = search needs
 
 run-requires : tie.Need-run-requires Inv-loop μ-loop
 run-requires c κs = search needs
@@ -69,10 +55,6 @@ each-case-spec =
     new-requires
     loop-holds
     next-requires
-    slice-aggregate-run
-    slice-aggregate-run-2
-    slice-aggregate-run-3
-    slice-aggregate-run-4
     run-requires
     ends-requires
     returns
