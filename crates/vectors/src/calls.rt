@@ -5,7 +5,7 @@ use crate::numbers;
 ghost use Prim.Native.Nat.{_*_, _≤_};
 ghost use lib.ListN.{length};
 
-const MARK: u32 = 2863311530;
+const MARK: u32 = 0xAAAAAAAA;
 
 pub(crate) struct Answer {
     // What the call returned, which is the answer's first word too.
@@ -59,6 +59,7 @@ fn run(file: &[u8], cells: &mut [u32], schedule: &[u8]) -> Answer {
     }
 }
 
+// The plain run, or the run under a schedule.
 fn either_run(call: u32, file: &[u8], cells: &mut [u32], schedule: &[u8]) -> Answer {
     if call == 4 {
         plain(file, cells)

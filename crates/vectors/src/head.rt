@@ -3,6 +3,7 @@ use crate::numbers;
 use crate::stream;
 ghost use Prim.Native.Nat.{_≤_};
 
+// The most bytes that a case may have of one kind, and of a schedule: as much as test/cases.h has room for.
 pub(crate) const ROOM: usize = 16384;
 
 pub(crate) const ROOM_SCHEDULE: usize = 70000;
@@ -12,6 +13,7 @@ const SIZE: usize = 52;
 pub(crate) struct Head {
     // Whether the data had a whole head.
     pub(crate) whole: bool,
+    // 1 check, 2 read, 3 write, 4 plain, 5 run.
     pub(crate) call: u32,
     pub(crate) workers: u32,
     pub(crate) cells: u32,
