@@ -45,13 +45,18 @@ fn counted(words: &[u8], n: u32) {
     line(b"");
 }
 
-// A line for each call with how many cases there were of it.
+// A line with a call and how many cases there were of it.
+fn cases_of(call: u32, n: u32) {
+    name(call);
+    counted(b" ", n);
+}
+
 pub(crate) fn calls(counts: &[u32; 6]) {
-    counted(b"check ", counts[1]);
-    counted(b"read ", counts[2]);
-    counted(b"write ", counts[3]);
-    counted(b"plain ", counts[4]);
-    counted(b"run ", counts[5]);
+    cases_of(1, counts[1]);
+    cases_of(2, counts[2]);
+    cases_of(3, counts[3]);
+    cases_of(4, counts[4]);
+    cases_of(5, counts[5]);
 }
 
 // A line for each number with how often it was answered.

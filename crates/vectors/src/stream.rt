@@ -16,6 +16,11 @@ pub(crate) fn take(room: &mut [u8], size: usize) -> &mut [u8] {
     &mut room[0..got]
 }
 
+pub(crate) fn is_at_end() -> bool {
+    let mut room = [0u8; 1];
+    take(&mut room, 1).len() == 0
+}
+
 // Reads so many bytes, which come over and over again up to a length; none where the data ends.
 pub(crate) fn take_repeated(room: &mut [u8], stored: usize, length: usize) -> &mut [u8] {
     let got = take(room, stored).len();
