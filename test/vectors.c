@@ -4,24 +4,32 @@
  *     vectors [CASES [SEED]] > FILE
  *
  * First the cases that the scope document names, then some with the largest
- * flow, then CASES made from the seed, most of them small. All numbers are
- * four bytes, low byte first. A case is
+ * flow, then some with a schedule that is too long, then CASES made from the
+ * seed, most of them small. The gate runs what it writes without words; that
+ * is stored by
  *
- *     its call: 1 check, 2 read, 3 write, 4 plain, 5 run
- *     what is lent:
- *         check   file
- *         read    file, rows
- *         write   rows, workers, cells, out
- *         plain   file, cells
- *         run     file, cells, schedule
- *     where workers and cells of the writer are one number each, and each of
- *     the others is its length and then its bytes; for starting cells, their
- *     count and then that many numbers
- *     the answer: 6, 6, 3, 2 or 6 numbers, in the order of sflw.h
- *     what was lent for writing, as it is after the call: rows, out or cells,
- *     as long as it was lent and with no length before it; nothing for check
+ *     test/build.sh && test/run.sh vectors > crates/vectors/stdin
  *
- * and after the last case there is a 0 in the place of a call.
+ * and the crate vectors reads it. All numbers are four bytes, low byte first.
+ * The number of cases stands first. A case is
+ *
+ *     its head, 13 numbers:
+ *         its call: 1 check, 2 read, 3 write, 4 plain, 5 run
+ *         the writer's workers, and its cells; 0 for the other calls
+ *         the bytes of the input: the file, or the writer's rows
+ *         the bytes lent for writing: rows, out, or four for each cell; 0 for
+ *         check
+ *         the bytes of the schedule, and how many of them are stored; 0 for
+ *         all calls but run
+ *         the six words of the answer, in the order of sflw.h; 0 for words
+ *         that the call's answer does not have
+ *     the input
+ *     what is lent for writing, as it is before the call
+ *     the stored bytes of the schedule, which come over and over again up to
+ *     its length
+ *     what was lent for writing, as it is after the call
+ *
+ * and after the last case there is nothing.
  */
 #include "calls.h"
 #include "lent.h"
@@ -32,7 +40,7 @@
 #include <stdlib.h>
 #include <string.h>
 
-enum { NUMBERS = 17 };
+enum { NUMBERS = 17, ANSWER_WORDS = 6, LARGEST = 3, TOO_LONG = 24 };
 
 static const struct calls reference = REFERENCE_CALLS;
 static struct memory memory;
@@ -59,12 +67,6 @@ static void put_number(uint32_t number)
     put_bytes(bytes, 4);
 }
 
-static void put_counted(const uint8_t *bytes, size_t length)
-{
-    put_number((uint32_t)length);
-    put_bytes(bytes, length);
-}
-
 static void put_cells(const uint8_t *cells, size_t length)
 {
     for (size_t at = 0; at < length; at += 4) {
@@ -74,51 +76,66 @@ static void put_cells(const uint8_t *cells, size_t length)
     }
 }
 
-static bool on_cells(void)
+/* What is lent for writing. */
+static void put_output(const uint8_t *output)
 {
-    return current.call == CALL_PLAIN || current.call == CALL_RUN;
+    if (current.call == CALL_PLAIN || current.call == CALL_RUN)
+        put_cells(output, current.output_len);
+    else
+        put_bytes(output, current.output_len);
 }
 
-static void put_lent(void)
+/* The least number of bytes that the schedule is, over and over again. */
+static size_t stored_schedule(void)
 {
+    size_t stored = current.schedule_len == 0 ? 0 : 1;
+    for (size_t i = stored; i < current.schedule_len; i++) {
+        if (current.schedule[i] != current.schedule[i - stored]) {
+            stored++;
+            i = stored - 1;
+        }
+    }
+    return stored;
+}
+
+static void put_head(size_t stored)
+{
+    bool writes = current.call == CALL_WRITE;
+
     put_number(current.call);
-    put_counted(current.input, current.input_len);
-    if (current.call == CALL_WRITE) {
-        put_number(current.workers);
-        put_number(current.cells);
-    }
-    if (on_cells()) {
-        put_number((uint32_t)(current.output_len / 4));
-        put_cells(current.output, current.output_len);
-    } else if (current.call != CALL_CHECK) {
-        put_counted(current.output, current.output_len);
-    }
-    if (current.call == CALL_RUN)
-        put_counted(current.schedule, current.schedule_len);
-}
-
-static void put_expected(void)
-{
-    for (uint32_t i = 0; i < answer_words(current.call); i++)
-        put_number(answer_at(&memory, i));
-    if (on_cells())
-        put_cells(memory.output.at, current.output_len);
-    else if (current.call != CALL_CHECK)
-        put_bytes(memory.output.at, current.output_len);
+    put_number(writes ? current.workers : 0);
+    put_number(writes ? current.cells : 0);
+    put_number((uint32_t)current.input_len);
+    put_number((uint32_t)current.output_len);
+    put_number((uint32_t)current.schedule_len);
+    put_number((uint32_t)stored);
+    for (uint32_t i = 0; i < ANSWER_WORDS; i++)
+        put_number(i < answer_words(current.call) ? answer_at(&memory, i) : 0);
 }
 
 static void put_case(void)
 {
+    size_t stored;
+
     call_case(&reference, &current, IN_THE_MIDDLE, 0, &memory);
     if (misdeed(&memory, &current) != NULL || memory.returned >= NUMBERS ||
+        memory.returned != answer_at(&memory, 0) ||
         (current.known && (memory.returned != current.number ||
                            answer_at(&memory, 1) != current.place))) {
         fprintf(stderr, "vectors: the reference is wrong on: %s\n", current.kind);
         exit(1);
     }
+    if (current.call == CALL_CHECK)
+        current.output_len = 0;
+    if (current.call != CALL_RUN)
+        current.schedule_len = 0;
     met[memory.returned]++;
-    put_lent();
-    put_expected();
+    stored = stored_schedule();
+    put_head(stored);
+    put_bytes(current.input, current.input_len);
+    put_output(current.output);
+    put_bytes(current.schedule, stored);
+    put_output(memory.output.at);
 }
 
 /* ---- the largest flow -------------------------------------------------- */
@@ -160,6 +177,36 @@ static void put_largest(void)
     put_run_largest(20000);
 }
 
+/* ---- schedules that are too long --------------------------------------- */
+
+/* The schedule over and over again, to a length above the most. What would be
+   accepted, or refused for the schedule, is refused with 13; an earlier
+   refusal stays. */
+static void lengthen_schedule(size_t length)
+{
+    for (size_t i = current.schedule_len; i < length; i++)
+        current.schedule[i] = current.schedule[i - current.schedule_len];
+    current.schedule_len = length;
+    current.kind = "schedule too long";
+    if (current.number == 0 || current.number > 12) {
+        current.number = 13;
+        current.place = 0;
+    }
+}
+
+static void put_too_long(uint64_t seed)
+{
+    uint32_t made = 0;
+    for (uint64_t i = 0; made < TOO_LONG; i++) {
+        make_case(seed + 1, i, MOSTLY_SMALL, &current);
+        if (current.call != CALL_RUN || current.schedule_len == 0 || !current.known)
+            continue;
+        lengthen_schedule(MOST_SCHEDULE + 1 + 100 * made);
+        put_case();
+        made++;
+    }
+}
+
 /* ---- the program ------------------------------------------------------- */
 
 static void report(uint64_t cases)
@@ -175,17 +222,20 @@ int main(int count, char **arguments)
     uint64_t cases = count > 1 ? strtoull(arguments[1], NULL, 0) : 2900;
     uint64_t seed = count > 2 ? strtoull(arguments[2], NULL, 0) : 20220127;
 
+    uint64_t all = named_case_count + LARGEST + TOO_LONG + cases;
+
     open_memory(&memory);
+    put_number((uint32_t)all);
     for (uint32_t i = 0; i < named_case_count; i++) {
         make_named_case(&named_cases[i], &current);
         put_case();
     }
     put_largest();
+    put_too_long(seed);
     for (uint64_t i = 0; i < cases; i++) {
         make_case(seed, i, MOSTLY_SMALL, &current);
         put_case();
     }
-    put_number(0);
-    report(named_case_count + 3 + cases);
+    report(all);
     return fflush(stdout) == 0 ? 0 : 2;
 }
