@@ -9,7 +9,7 @@ use Rattle.layout.specs.Row.{accessAt, operationAt}
 use Rattle.steps.specs.Operations.{effect, operated}
 use Rattle.steps.specs.Step.{writes}
 use Rattle.machine.specs.Arrays.{Arrays, arrays}
-use Rattle.machine.proofs.Changes.{five-stages, at-operation, at-access, waited, made, posted, zeroed, ended}
+use Rattle.machine.proofs.Changes.{five-stages, at-operation, at-access, waited, made, AtAccess, posted, zeroed, ended}
 use Rattle.machine.proofs.stepping.change.Statement.{statement}
 use Rattle.machine.proofs.stepping.change.Tie as tie
 
@@ -75,6 +75,13 @@ within c =
     let start = past-operations (c .before .before) in
     rw (cell-is c) (start .pre .0 .0 .access-cells (start .args .index) (access-index (c .before .before)))
 
+-- so the step is one at that access
+at-cell : (c : tie.After-index)
+    → AtAccess (past-operations (c .before .before) .args .row .now) (past-operations (c .before .before) .args .w) (past-operations (c .before .before) .args .index) (c .index .result) (lent (past-operations (c .before .before)))
+at-cell c =
+    let start = past-operations (c .before .before) in
+    record { shape = start .pre .1 .0; worker = start .pre .0 .2; within = within c; here = cell-is c }
+
 mul-index : tie.Need-mul-index
 mul-index c = search needs
 
@@ -123,17 +130,7 @@ note-requires c κs =
 returns-3 : tie.Need-returns-3
 returns-3 c =
     let start = c .before .before .before .before .before .before .before .before .before .before .before .before in
-    let a = start .args in
-    let read = c .before .before .before .before .before in
-    posted (a .row .now) (a .w) (a .number) (a .index) (lent start) (start .pre .1 .0)
-    (read .index .result)
-    (start .pre .0 .2)
-    (within read)
-    (cell-is read)
-    (a .stage)
-    (c .note .last .0)
-    (c .before .before .if3 .taken)
-    (c .note .ensures)
+    posted (start .args .number) (at-cell (c .before .before .before .before .before)) (start .args .stage) (c .note .last .0) (c .before .before .if3 .taken) (c .note .ensures)
 
 is-write-requires : tie.Need-is-write-requires
 is-write-requires c κs =
@@ -164,16 +161,7 @@ element-set-from-shared-2 c = within (c .before .before .before .before .before)
 returns-4 : tie.Need-returns-4
 returns-4 c =
     let start = c .before .before .before .before .before .before .before .before .before .before .before .before in
-    let a = start .args in
-    let read = c .before .before .before .before .before in
-    zeroed (a .row .now) (a .w) (a .number) (a .index) (lent start) (start .pre .1 .0)
-    (read .index .result)
-    (start .pre .0 .2)
-    (within read)
-    (cell-is read)
-    (a .stage)
-    (third (c .before .before))
-    (mode-is (c .before) ∙ c .if4 .taken)
+    zeroed (start .args .number) (at-cell (c .before .before .before .before .before)) (start .args .stage) (third (c .before .before)) (mode-is (c .before) ∙ c .if4 .taken)
 
 add-t25 : tie.Need-add-t25
 add-t25 c =
@@ -196,16 +184,7 @@ note-requires-2 c κs =
 returns-5 : tie.Need-returns-5
 returns-5 c =
     let start = c .before .before .before .before .before .before .before .before .before .before .before .before .before .before in
-    let a = start .args in
-    let read = c .before .before .before .before .before .before .before in
-    ended (a .row .now) (a .w) (a .number) (a .index) (lent start) (start .pre .1 .0)
-    (read .index .result)
-    (start .pre .0 .2)
-    (within read)
-    (cell-is read)
-    (a .stage)
-    (c .note2 .last .0)
-    (third (c .before .before .before .before))
+    ended (start .args .number) (at-cell (c .before .before .before .before .before .before .before)) (start .args .stage) (c .note2 .last .0) (third (c .before .before .before .before))
     (mode-is (c .before .before .before) ∙ c .before .before .if4 .left)
     (c .note2 .ensures)
 
