@@ -1,19 +1,14 @@
 // Words and numbers in a text.
-ghost use Prim.Native.Nat.{_≤_, _<_};
+ghost use Prim.Native.Nat.{_+_, _≤_, _<_};
 ghost use lib.ListN.{length};
 
-// Where a byte first stands in a text; the text's length where it doesn't.
-pub(crate) fn until(text: &[u8], end: u8) -> usize
-    ensures { λ r. ⌜ r ≤ length (now (text .entry)) ⌝ }
+// The part of a text from an index up to, not including, the first separator; up to the end where there is none.
+pub(crate) fn part<'a>(text: &'a [u8], from: usize, separator: u8) -> &'a [u8]
+    requires { ⌜ from ≤ length (now text) ⌝ }
+    ensures { λ r. ⌜ from + length (now r) ≤ length (now (text .entry)) ⌝ }
 {
-    let mut i = 0;
-    while i < text.len() {
-        if text[i] == end {
-            return i;
-        }
-        i += 1;
-    }
-    i
+    let to = bytes::scan::find(text, from, text.len(), separator);
+    &text[from..to]
 }
 
 pub(crate) fn is_digit(byte: u8) -> bool {

@@ -98,7 +98,8 @@ fn command(name: u8, setting: Setting, rows: &[u8], file: &mut [u8]) -> Setting 
 }
 
 fn word(word: &[u8], setting: Setting, rows: &mut [u8; 9648], file: &mut [u8; 10752]) -> Setting {
-    let equals = text::until(word, b'=');
+    let name = text::part(word, 0, b'=');
+    let equals = name.len();
     if equals < word.len() {
         return assign(word, equals, setting, rows, file);
     }
@@ -115,10 +116,9 @@ fn each_word(words: &[u8], all: &[u8; 9648]) {
     let mut setting = Setting::new();
     let mut from = 0;
     while from < words.len() {
-        let rest = &words[from..];
-        let size = text::until(rest, b' ');
-        setting = word(&rest[0..size], setting, &mut rows, &mut file);
-        from += size + 1;
+        let next = text::part(words, from, b' ');
+        setting = word(next, setting, &mut rows, &mut file);
+        from += next.len() + 1;
     }
 }
 
@@ -130,8 +130,9 @@ fn line(line: &[u8], rows: &[u8; 9648]) {
     if line[0] == b'#' {
         return;
     }
-    let colon = text::until(line, b':');
-    say::text(&line[0..colon]);
+    let name = text::part(line, 0, b':');
+    let colon = name.len();
+    say::text(name);
     say::text(b":");
     each_word(&line[colon..], rows);
     say::text(b"\n");
@@ -140,9 +141,8 @@ fn line(line: &[u8], rows: &[u8; 9648]) {
 pub(crate) fn each_line(text: &[u8], rows: &[u8; 9648]) {
     let mut from = 0;
     while from < text.len() {
-        let rest = &text[from..];
-        let size = text::until(rest, b'\n');
-        line(&rest[0..size], rows);
-        from += size + 1;
+        let next = text::part(text, from, b'\n');
+        line(next, rows);
+        from += next.len() + 1;
     }
 }

@@ -62,9 +62,6 @@ Changed w number before try after =
     Shape (after .shared) (after .private) × (machineOf [] after ≡ change effect number (machineOf [] before) w try)
 
 module _ (row : List ℕ) (w number index : ℕ) (kept : Arrays) (shape : Shape (kept .shared) (kept .private)) where
-  abbrev m : Machine
-  m = machineOf [] kept
-
   pub waited : (stage : ℕ) → stage < 2 → Changed w number kept (tryAt row stage index) kept
   unfolding tryAt change
   waited zero h = (shape, refl)
@@ -74,71 +71,83 @@ module _ (row : List ℕ) (w number index : ℕ) (kept : Arrays) (shape : Shape 
   pub made : (stage : ℕ) (cells′ : List ℕ) → stage ≡ 2 → cells′ ≡ operated effect (operationAt row index) (kept .cells)
       → Changed w number kept (tryAt row stage index) (arrays cells′ (kept .shared) (kept .private) (kept .places))
   unfolding tryAt change
-  made stage cells′ e is = (shape, ap (withCells m) is ∙ ap (λ (s : ℕ). change effect number m w (tryAt row s index)) (sym e))
+  made stage cells′ e is =
+      let m = machineOf [] kept in
+      (shape, ap (withCells m) is ∙ ap (λ (s : ℕ). change effect number m w (tryAt row s index)) (sym e))
 
-  module _ (cell : ℕ) (h : w < 8) (l : cell < 32) (here : cell ≡ accessAt row index .cell) where
-    -- the counter there, shared and in the worker's row
-    abbrev ours : List ℕ
-    ours = getD (kept .shared) cell []
+-- a worker at an access, whose cell is read from the row
+pub record AtAccess (row : List ℕ) (w index cell : ℕ) (kept : Arrays) : Type 0 where
+  pub shape : Shape (kept .shared) (kept .private)
+  pub worker : w < 8
+  pub within : cell < 32
+  pub here : cell ≡ accessAt row index .cell
 
-    abbrev mine : Counter
-    mine = m .private w cell
+module _ {row : List ℕ} {w index cell : ℕ} {kept : Arrays} (number : ℕ) (at : AtAccess row w index cell kept) where
+  abbrev m : Machine
+  m = machineOf [] kept
 
-    -- a shared counter stored and an access noted
-    stored-noted : (numbers : List ℕ) (isWrite : Bool) (private′ : List (List (List ℕ))) → private′ ≡ noted (kept .private) w cell isWrite number
-        → Shape (set (kept .shared) cell numbers) private′
-        × (machineOf [] (arrays (kept .cells) (set (kept .shared) cell numbers) private′ (kept .places))
-        ≡ withRow (withShared m cell (counterOf numbers)) w (put (m .private w) cell (cond isWrite (counter number 0) (afterRead mine))))
-    stored-noted numbers isWrite private′ is =
-        let stored = arrays (kept .cells) (set (kept .shared) cell numbers) (kept .private) (kept .places) in
-        let row′ = put (m .private w) cell (cond isWrite (counter number 0) (afterRead mine)) in
-        let only =
-        noted-only (stored .shared) w number h (kept .private) cell isWrite l
-        (shared-shape (kept .shared) (kept .private) cell numbers shape)
-        in (
-          subst (Shape (stored .shared)) (sym is) (only .shape),
-          ap (λ (p : List (List (List ℕ))). machineOf [] (arrays (kept .cells) (stored .shared) p (kept .places))) is
-              ∙ row-replaced [] stored (noted (kept .private) w cell isWrite number) w row′ only
-              ∙ ap (λ (to : Machine). withRow to w row′) (shared-stored [] kept cell numbers (omega (arith, shape .shared-size))),
-        )
+  -- the counter there, shared and in the worker's row
+  abbrev ours : List ℕ
+  ours = getD (kept .shared) cell []
 
-    -- a try that is reached by an equation
-    tried : (stage : ℕ) (try : Try) (to : Machine) → try ≡ tryAt row stage index → to ≡ change effect number m w try
-        → to ≡ change effect number m w (tryAt row stage index)
-    tried stage try to e is = is ∙ ap (change effect number m w) e
+  abbrev mine : Counter
+  mine = m .private w cell
 
-    -- the try of an access's first end
-    first-end : (stage : ℕ) (isWrite : Bool) → stage ≡ 3 → writes (accessAt row index) ≡ isWrite
-        → cond isWrite (zeroReads cell) (endRead cell) ≡ tryAt row stage index
-    unfolding tryAt
-    first-end stage isWrite e t =
-        ap (λ (c : ℕ). cond isWrite (zeroReads c) (endRead c)) here
-        ∙ ap (λ (b : Bool). cond b (zeroReads (accessAt row index .cell)) (endRead (accessAt row index .cell))) (sym t)
-        ∙ ap (λ (s : ℕ). tryAt row s index) (sym e)
+  -- a shared counter stored and an access noted
+  stored-noted : (numbers : List ℕ) (isWrite : Bool) (private′ : List (List (List ℕ))) → private′ ≡ noted (kept .private) w cell isWrite number
+      → Shape (set (kept .shared) cell numbers) private′
+      × (machineOf [] (arrays (kept .cells) (set (kept .shared) cell numbers) private′ (kept .places))
+      ≡ withRow (withShared m cell (counterOf numbers)) w (put (m .private w) cell (cond isWrite (counter number 0) (afterRead mine))))
+  stored-noted numbers isWrite private′ is =
+      let stored = arrays (kept .cells) (set (kept .shared) cell numbers) (kept .private) (kept .places) in
+      let row′ = put (m .private w) cell (cond isWrite (counter number 0) (afterRead mine)) in
+      let only =
+      noted-only (stored .shared) w number (at .worker) (kept .private) cell isWrite (at .within)
+      (shared-shape (kept .shared) (kept .private) cell numbers (at .shape))
+      in (
+        subst (Shape (stored .shared)) (sym is) (only .shape),
+        ap (λ (p : List (List (List ℕ))). machineOf [] (arrays (kept .cells) (stored .shared) p (kept .places))) is
+            ∙ row-replaced [] stored (noted (kept .private) w cell isWrite number) w row′ only
+            ∙ ap (λ (to : Machine). withRow to w row′) (shared-stored [] kept cell numbers (omega (arith, at .shape .shared-size))),
+      )
 
-    pub zeroed : (stage : ℕ) → stage ≡ 3 → writes (accessAt row index) ≡ true
-        → Changed w number kept (tryAt row stage index)
-        (arrays (kept .cells) (set (kept .shared) cell (getD ours 0 0 ∷ 0 ∷ [])) (kept .private) (kept .places))
-    unfolding change
-    zeroed stage e t =
-        let numbers = getD ours 0 0 ∷ 0 ∷ [] in (
-          shared-shape (kept .shared) (kept .private) cell numbers shape,
-          tried stage (zeroReads cell) _ (first-end stage true e t) (shared-stored [] kept cell numbers (omega (arith, shape .shared-size))),
-        )
+  -- a try that is reached by an equation
+  tried : (stage : ℕ) (try : Try) (to : Machine) → try ≡ tryAt row stage index → to ≡ change effect number m w try
+      → to ≡ change effect number m w (tryAt row stage index)
+  tried stage try to e is = is ∙ ap (change effect number m w) e
 
-    pub ended : (stage : ℕ) (private′ : List (List (List ℕ))) → stage ≡ 3 → writes (accessAt row index) ≡ false
-        → private′ ≡ noted (kept .private) w cell false number
-        → Changed w number kept (tryAt row stage index)
-        (arrays (kept .cells) (set (kept .shared) cell (getD ours 0 0 ∷ (getD ours 1 0 + 1) ∷ [])) private′ (kept .places))
-    unfolding change
-    ended stage private′ e t is =
-        let both = stored-noted (getD ours 0 0 ∷ (getD ours 1 0 + 1) ∷ []) false private′ is in
-        (both .0, tried stage (endRead cell) _ (first-end stage false e t) (both .1))
+  -- the try of an access's first end
+  first-end : (stage : ℕ) (isWrite : Bool) → stage ≡ 3 → writes (accessAt row index) ≡ isWrite
+      → cond isWrite (zeroReads cell) (endRead cell) ≡ tryAt row stage index
+  unfolding tryAt
+  first-end stage isWrite e t =
+      ap (λ (c : ℕ). cond isWrite (zeroReads c) (endRead c)) (at .here)
+      ∙ ap (λ (b : Bool). cond b (zeroReads (accessAt row index .cell)) (endRead (accessAt row index .cell))) (sym t)
+      ∙ ap (λ (s : ℕ). tryAt row s index) (sym e)
 
-    pub posted : (stage : ℕ) (private′ : List (List (List ℕ))) → stage ≡ 4 → private′ ≡ noted (kept .private) w cell true number
-        → Changed w number kept (tryAt row stage index)
-        (arrays (kept .cells) (set (kept .shared) cell (number ∷ getD ours 1 0 ∷ [])) private′ (kept .places))
-    unfolding tryAt change
-    posted stage private′ e is =
-        let both = stored-noted (number ∷ getD ours 1 0 ∷ []) true private′ is in
-        (both .0, tried stage (postWrite cell) _ (ap postWrite here ∙ ap (λ (s : ℕ). tryAt row s index) (sym e)) (both .1))
+  pub zeroed : (stage : ℕ) → stage ≡ 3 → writes (accessAt row index) ≡ true
+      → Changed w number kept (tryAt row stage index)
+      (arrays (kept .cells) (set (kept .shared) cell (getD ours 0 0 ∷ 0 ∷ [])) (kept .private) (kept .places))
+  unfolding change
+  zeroed stage e t =
+      let numbers = getD ours 0 0 ∷ 0 ∷ [] in (
+        shared-shape (kept .shared) (kept .private) cell numbers (at .shape),
+        tried stage (zeroReads cell) _ (first-end stage true e t) (shared-stored [] kept cell numbers (omega (arith, at .shape .shared-size))),
+      )
+
+  pub ended : (stage : ℕ) (private′ : List (List (List ℕ))) → stage ≡ 3 → writes (accessAt row index) ≡ false
+      → private′ ≡ noted (kept .private) w cell false number
+      → Changed w number kept (tryAt row stage index)
+      (arrays (kept .cells) (set (kept .shared) cell (getD ours 0 0 ∷ (getD ours 1 0 + 1) ∷ [])) private′ (kept .places))
+  unfolding change
+  ended stage private′ e t is =
+      let both = stored-noted (getD ours 0 0 ∷ (getD ours 1 0 + 1) ∷ []) false private′ is in
+      (both .0, tried stage (endRead cell) _ (first-end stage false e t) (both .1))
+
+  pub posted : (stage : ℕ) (private′ : List (List (List ℕ))) → stage ≡ 4 → private′ ≡ noted (kept .private) w cell true number
+      → Changed w number kept (tryAt row stage index)
+      (arrays (kept .cells) (set (kept .shared) cell (number ∷ getD ours 1 0 ∷ [])) private′ (kept .places))
+  unfolding tryAt change
+  posted stage private′ e is =
+      let both = stored-noted (number ∷ getD ours 1 0 ∷ []) true private′ is in
+      (both .0, tried stage (postWrite cell) _ (ap postWrite (at .here) ∙ ap (λ (s : ℕ). tryAt row s index) (sym e)) (both .1))

@@ -1,5 +1,6 @@
 -- Laws that the proofs of the row check share.
 pub mod Table
+pub mod Indexes
 pub mod Operation
 pub mod Once
 pub mod Keeps

@@ -6,22 +6,13 @@ use Rattle.layout.proofs.Blocks.{few-rows}
 use Rattle.block.proofs.refusal.Statement.{statement}
 use Rattle.block.proofs.refusal.Tie as tie
 
-check-sound-requires : tie.Need-check-sound-requires
-check-sound-requires c κs = search needs
-
 returns : tie.Need-returns
 unfolding blockRefusal
 returns c = broken _ _ _ _ (c .before .check-sound .ensures) (c .if1 .taken)
 
-head-sound-requires : tie.Need-head-sound-requires
-head-sound-requires c κs = search needs
-
 returns-2 : tie.Need-returns-2
 unfolding blockRefusal
 returns-2 c = kept _ _ _ _ (c .before .before .before .check-sound .ensures) (c .before .before .if1 .left) (broken _ _ _ _ (c .before .head-sound .ensures) (c .if2 .taken))
-
-sizes-sound-requires : tie.Need-sizes-sound-requires
-sizes-sound-requires c κs = search needs
 
 returns-3 : tie.Need-returns-3
 unfolding blockRefusal
@@ -47,12 +38,5 @@ pub refusal-spec : {M : Type 1} → statement M
 refusal-spec =
     tie.close
     (tie.spec
-    check-sound-requires
-    returns
-    head-sound-requires
-    returns-2
-    sizes-sound-requires
-    returns-3
-    rest-sound-requires
-    returns-4
-    returns-5)
+    (λ c κs. search needs) returns (λ c κs. search needs) returns-2 (λ c κs. search needs) returns-3
+    rest-sound-requires returns-4 returns-5)

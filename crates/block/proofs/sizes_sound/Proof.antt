@@ -3,24 +3,6 @@ use borrow.Author.Needs.{needs}
 use Rattle.block.proofs.sizes_sound.Statement.{statement}
 use Rattle.block.proofs.sizes_sound.Tie as tie
 
-sizes-of-requires : tie.Need-sizes-of-requires
-sizes-of-requires c κs = search needs
-
-within-requires : tie.Need-within-requires
-within-requires c κs = search needs
-
-blocks-for-requires : tie.Need-blocks-for-requires
-blocks-for-requires c κs = search needs
-
-rows-in-requires : tie.Need-rows-in-requires
-rows-in-requires c κs = search needs
-
-shared-slice-read-wide : tie.Need-shared-slice-read-wide
-shared-slice-read-wide c = search needs
-
-wide-requires : tie.Need-wide-requires
-wide-requires c κs = search needs
-
 returns : tie.Need-returns
 returns c = cc
 
@@ -28,10 +10,5 @@ pub sizes-sound-spec : {M : Type 1} → statement M
 sizes-sound-spec =
     tie.close
     (tie.spec
-    sizes-of-requires
-    within-requires
-    blocks-for-requires
-    rows-in-requires
-    shared-slice-read-wide
-    wide-requires
-    returns)
+    (λ c κs. search needs) (λ c κs. search needs) (λ c κs. search needs) (λ c κs. search needs)
+    (λ c. search needs) (λ c κs. search needs) returns)

@@ -22,24 +22,6 @@ loop-holds : tie.Need-loop-holds Inv-loop μ-loop
 loop-holds c =
     (search needs, search needs, search needs, late-start _ _ _ (c .before .pre .0 .0) (c .before .pre .0 .1))
 
-shared-slice-read-wide : tie.Need-shared-slice-read-wide Inv-loop μ-loop
-shared-slice-read-wide c = search needs
-
-wide-requires : tie.Need-wide-requires Inv-loop μ-loop
-wide-requires c κs = search needs
-
-add-a : tie.Need-add-a Inv-loop μ-loop
-add-a c = search needs
-
-add-b : tie.Need-add-b Inv-loop μ-loop
-add-b c = search needs
-
-add-i : tie.Need-add-i Inv-loop μ-loop
-add-i c = search needs
-
-loop-less : tie.Need-loop-less Inv-loop μ-loop
-loop-less c = search needs
-
 loop-again : tie.Need-loop-again Inv-loop μ-loop
 loop-again c = (
   search needs,
@@ -57,14 +39,5 @@ pub add-spec : {M : Type 1} → statement M
 add-spec =
     tie.close
     (tie.spec
-    Inv-loop
-    μ-loop
-    loop-holds
-    shared-slice-read-wide
-    wide-requires
-    add-a
-    add-b
-    add-i
-    loop-less
-    loop-again
-    returns)
+    Inv-loop μ-loop loop-holds (λ c. search needs) (λ c κs. search needs) (λ c. search needs)
+    (λ c. search needs) (λ c. search needs) (λ c. search needs) loop-again returns)

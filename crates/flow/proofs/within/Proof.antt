@@ -6,14 +6,8 @@ use Rattle.flow.proofs.Answers.{within-is, outside-is}
 use Rattle.flow.proofs.within.Statement.{statement}
 use Rattle.flow.proofs.within.Tie as tie
 
-new-requires : tie.Need-new-requires
-new-requires c κs = search needs
-
 enum-told : tie.Need-enum-told
 enum-told c = search needs
-
-enum-told-2 : tie.Need-enum-told-2
-enum-told-2 c = search needs
 
 returns : tie.Need-returns
 returns c = sym (within-is _ (c .before .before .before .args .tasks) (c .before .before .before .args .workers) (c .before .before .before .args .cells) (ap statedBy (sym (c .enum-told .given .1)) ∙ c .before .before .new .ensures) .range)
@@ -22,4 +16,4 @@ returns-2 : tie.Need-returns-2
 returns-2 c = sym (outside-is (c .before .before .before .args .tasks) (c .before .before .before .args .workers) (c .before .before .before .args .cells) (ap statedBy (sym (c .enum-told2 .given .1)) ∙ c .before .before .new .ensures))
 
 pub within-spec : {M : Type 1} → statement M
-within-spec = tie.close (tie.spec new-requires enum-told enum-told-2 returns returns-2)
+within-spec = tie.close (tie.spec (λ c κs. search needs) enum-told (λ c. search needs) returns returns-2)

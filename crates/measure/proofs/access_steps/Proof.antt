@@ -20,30 +20,6 @@ Inv-loop row count steps₀ j₀ steps j =
 abbrev μ-loop : tie.MeasureT-loop
 μ-loop row count steps₀ j₀ steps j = count - j
 
-shared-slice-read-index : tie.Need-shared-slice-read-index Inv-loop μ-loop
-shared-slice-read-index c = search needs
-
-index-requires : tie.Need-index-requires Inv-loop μ-loop
-index-requires c κs = search needs
-
-loop-holds : tie.Need-loop-holds Inv-loop μ-loop
-loop-holds c = search needs
-
-is-write-requires : tie.Need-is-write-requires Inv-loop μ-loop
-is-write-requires c κs = search needs
-
-add-steps : tie.Need-add-steps Inv-loop μ-loop
-add-steps c = search needs
-
-add-steps-2 : tie.Need-add-steps-2 Inv-loop μ-loop
-add-steps-2 c = search needs
-
-add-j : tie.Need-add-j Inv-loop μ-loop
-add-j c = search needs
-
-loop-less : tie.Need-loop-less Inv-loop μ-loop
-loop-less c = search needs
-
 loop-again : tie.Need-loop-again Inv-loop μ-loop
 unfolding taskOf
 loop-again c =
@@ -70,15 +46,5 @@ pub access-steps-spec : {M : Type 1} → statement M
 access-steps-spec =
     tie.close
     (tie.spec
-    Inv-loop
-    μ-loop
-    shared-slice-read-index
-    index-requires
-    loop-holds
-    is-write-requires
-    add-steps
-    add-steps-2
-    add-j
-    loop-less
-    loop-again
-    returns)
+    Inv-loop μ-loop (λ c. search needs) (λ c κs. search needs) (λ c. search needs) (λ c κs. search needs)
+    (λ c. search needs) (λ c. search needs) (λ c. search needs) (λ c. search needs) loop-again returns)

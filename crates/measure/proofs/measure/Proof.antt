@@ -6,9 +6,6 @@ use borrow.Author.Needs.{needs}
 use Rattle.measure.proofs.measure.Statement.{statement}
 use Rattle.measure.proofs.measure.Tie as tie
 
-check-requires : tie.Need-check-requires
-check-requires c κs = search needs
-
 returns : tie.Need-returns
 returns c = measure-refused (c .before .before .check .ensures) (c .if1 .taken)
 
@@ -22,4 +19,4 @@ returns-2 : tie.Need-returns-2
 returns-2 c = measure-done (c .before .before .before .check .ensures) (c .before .if1 .left) _ (c .tasks-total .ensures .0) (c .tasks-total .ensures .1)
 
 pub measure-spec : {M : Type 1} → statement M
-measure-spec = tie.close (tie.spec check-requires returns tasks-total-requires returns-2)
+measure-spec = tie.close (tie.spec (λ c κs. search needs) returns tasks-total-requires returns-2)

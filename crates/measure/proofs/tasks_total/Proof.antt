@@ -21,56 +21,11 @@ Inv-loop file tasks workers total₀ done₀ total done =
 abbrev μ-loop : tie.MeasureT-loop
 μ-loop file tasks workers total₀ done₀ total done = tasks - done
 
-loop-holds : tie.Need-loop-holds Inv-loop μ-loop
-loop-holds c = search needs
-
-add-start : tie.Need-add-start Inv-loop μ-loop
-add-start c = search needs
-
-start-requires : tie.Need-start-requires Inv-loop μ-loop
-start-requires c κs = search needs
-
-add-row : tie.Need-add-row Inv-loop μ-loop
-add-row c = search needs
-
-sub-row : tie.Need-sub-row Inv-loop μ-loop
-sub-row c = search needs
-
-part-row-start : tie.Need-part-row-start Inv-loop μ-loop
-part-row-start c = search needs
-
-part-row-end : tie.Need-part-row-end Inv-loop μ-loop
-part-row-end c = search needs
-
 access-steps-requires : tie.Need-access-steps-requires Inv-loop μ-loop
 access-steps-requires c κs =
     let a = c .before .before .before .before .before .args in
     let fits = row-fits (a .file .now) (a .tasks) (c .before .before .before .loop .done) _ _ (c .before .before .before .before .before .pre .0) (c .before .before .loop-test .taken) (c .before .start .ensures) in
     (fits .size, fits .few-accesses)
-
-shared-slice-read-wide : tie.Need-shared-slice-read-wide Inv-loop μ-loop
-shared-slice-read-wide c = search needs
-
-wide-requires : tie.Need-wide-requires Inv-loop μ-loop
-wide-requires c κs = search needs
-
-add-total : tie.Need-add-total Inv-loop μ-loop
-add-total c = search needs
-
-sub-total : tie.Need-sub-total Inv-loop μ-loop
-sub-total c = search needs
-
-add-total-2 : tie.Need-add-total-2 Inv-loop μ-loop
-add-total-2 c = search needs
-
-add-total-3 : tie.Need-add-total-3 Inv-loop μ-loop
-add-total-3 c = search needs
-
-add-done : tie.Need-add-done Inv-loop μ-loop
-add-done c = search needs
-
-loop-less : tie.Need-loop-less Inv-loop μ-loop
-loop-less c = search needs
 
 loop-again : tie.Need-loop-again Inv-loop μ-loop
 loop-again c =
@@ -98,23 +53,7 @@ pub tasks-total-spec : {M : Type 1} → statement M
 tasks-total-spec =
     tie.close
     (tie.spec
-    Inv-loop
-    μ-loop
-    loop-holds
-    add-start
-    start-requires
-    add-row
-    sub-row
-    part-row-start
-    part-row-end
-    access-steps-requires
-    shared-slice-read-wide
-    wide-requires
-    add-total
-    sub-total
-    add-total-2
-    add-total-3
-    add-done
-    loop-less
-    loop-again
-    returns)
+    Inv-loop μ-loop (λ c. search needs) (λ c. search needs) (λ c κs. search needs) (λ c. search needs)
+    (λ c. search needs) (λ c. search needs) (λ c. search needs) access-steps-requires (λ c. search needs)
+    (λ c κs. search needs) (λ c. search needs) (λ c. search needs) (λ c. search needs) (λ c. search needs)
+    (λ c. search needs) (λ c. search needs) loop-again returns)

@@ -14,12 +14,6 @@ Inv-loop row modes₀ count i₀ modes i = (i ≤ count) × (count ≤ 6) × Kep
 abbrev μ-loop : tie.MeasureT-loop
 μ-loop row modes₀ count i₀ modes i = count - i
 
-shared-slice-read-index : tie.Need-shared-slice-read-index Inv-loop μ-loop
-shared-slice-read-index c = search needs
-
-index-requires : tie.Need-index-requires Inv-loop μ-loop
-index-requires c κs = search needs
-
 loop-holds : tie.Need-loop-holds Inv-loop μ-loop
 loop-holds c =
     let start = c .before .before .before in (
@@ -27,30 +21,6 @@ loop-holds c =
       rw (c .index .ensures .0) (counts-kept (start .args .row .now) (start .pre .1 .0) .1),
       kept-none (start .args .row .now) (start .args .modes .now) (start .pre .1 .1 .1),
     )
-
-mul-index : tie.Need-mul-index Inv-loop μ-loop
-mul-index c = search needs
-
-add-index : tie.Need-add-index Inv-loop μ-loop
-add-index c = search needs
-
-shared-slice-read-index-2 : tie.Need-shared-slice-read-index-2 Inv-loop μ-loop
-shared-slice-read-index-2 c = search needs
-
-index-requires-2 : tie.Need-index-requires-2 Inv-loop μ-loop
-index-requires-2 c κs = search needs
-
-mul-index-2 : tie.Need-mul-index-2 Inv-loop μ-loop
-mul-index-2 c = search needs
-
-add-index-2 : tie.Need-add-index-2 Inv-loop μ-loop
-add-index-2 c = search needs
-
-shared-slice-read-index-3 : tie.Need-shared-slice-read-index-3 Inv-loop μ-loop
-shared-slice-read-index-3 c = search needs
-
-index-requires-3 : tie.Need-index-requires-3 Inv-loop μ-loop
-index-requires-3 c κs = search needs
 
 step : (c : tie.After-index3 Inv-loop μ-loop)
     → Step (c .before .before .before .before .before .before .before .before .before .args .row .now) (c .before .before .before .before .before .loop .i) (c .before .before .index2 .result) (c .index3 .result) (c .before .before .before .before .before .loop .modes)
@@ -63,35 +33,17 @@ step c =
       kept = head .loop .inv .2;
     }
 
-mul-keeps-modes : tie.Need-mul-keeps-modes Inv-loop μ-loop
-mul-keeps-modes c = search needs
-
-add-keeps-modes : tie.Need-add-keeps-modes Inv-loop μ-loop
-add-keeps-modes c = search needs
-
-shared-slice-read-keeps-modes : tie.Need-shared-slice-read-keeps-modes Inv-loop μ-loop
-shared-slice-read-keeps-modes c = search needs
-
 element-copy-out-keeps-modes : tie.Need-element-copy-out-keeps-modes Inv-loop μ-loop
 element-copy-out-keeps-modes c = step-cells (step (c .before)) .0
 
 element-copy-out-keeps-modes-2 : tie.Need-element-copy-out-keeps-modes-2 Inv-loop μ-loop
 element-copy-out-keeps-modes-2 c = step-cells (step (c .before .before)) .1
 
-keeps-modes-requires : tie.Need-keeps-modes-requires Inv-loop μ-loop
-keeps-modes-requires c κs = search needs
-
 returns : tie.Need-returns Inv-loop μ-loop
 returns c = sym (breaks (step (c .before .before .before .before .before)) (sym (c .before .keeps-modes .ensures) ∙ not-true _ (c .if1 .taken)))
 
 element-write-modes : tie.Need-element-write-modes Inv-loop μ-loop
 element-write-modes c = step-cells (step (c .before .before .before .before .before)) .0
-
-add-i : tie.Need-add-i Inv-loop μ-loop
-add-i c = search needs
-
-loop-less : tie.Need-loop-less Inv-loop μ-loop
-loop-less c = search needs
 
 loop-again : tie.Need-loop-again Inv-loop μ-loop
 loop-again c = (
@@ -107,28 +59,8 @@ pub all-keep-modes-spec : {M : Type 1} → statement M
 all-keep-modes-spec =
     tie.close
     (tie.spec
-    Inv-loop
-    μ-loop
-    shared-slice-read-index
-    index-requires
-    loop-holds
-    mul-index
-    add-index
-    shared-slice-read-index-2
-    index-requires-2
-    mul-index-2
-    add-index-2
-    shared-slice-read-index-3
-    index-requires-3
-    mul-keeps-modes
-    add-keeps-modes
-    shared-slice-read-keeps-modes
-    element-copy-out-keeps-modes
-    element-copy-out-keeps-modes-2
-    keeps-modes-requires
-    returns
-    element-write-modes
-    add-i
-    loop-less
-    loop-again
-    returns-2)
+    Inv-loop μ-loop (λ c. search needs) (λ c κs. search needs) loop-holds (λ c. search needs)
+    (λ c. search needs) (λ c. search needs) (λ c κs. search needs) (λ c. search needs) (λ c. search needs)
+    (λ c. search needs) (λ c κs. search needs) (λ c. search needs) (λ c. search needs) (λ c. search needs)
+    element-copy-out-keeps-modes element-copy-out-keeps-modes-2 (λ c κs. search needs) returns
+    element-write-modes (λ c. search needs) (λ c. search needs) loop-again returns-2)

@@ -14,33 +14,12 @@ Inv-loop row modes₀ j₀ modes j = (j ≤ 4) × Passed row j modes
 abbrev μ-loop : tie.MeasureT-loop
 μ-loop row modes₀ j₀ modes j = j
 
-shared-slice-read-index : tie.Need-shared-slice-read-index Inv-loop μ-loop
-shared-slice-read-index c = search needs
-
-index-requires : tie.Need-index-requires Inv-loop μ-loop
-index-requires c κs = search needs
-
 loop-holds : tie.Need-loop-holds Inv-loop μ-loop
 loop-holds c =
     let start = c .before .before .before in (
       rw (c .index .ensures .0) (counts-kept (start .args .row .now) (start .pre .1 .0) .0),
       rw (c .index .ensures .0, start .pre .1 .1 .1) (passed-none (start .args .row .now)),
     )
-
-sub-j : tie.Need-sub-j Inv-loop μ-loop
-sub-j c = search needs
-
-mul-index : tie.Need-mul-index Inv-loop μ-loop
-mul-index c = search needs
-
-add-index : tie.Need-add-index Inv-loop μ-loop
-add-index c = search needs
-
-shared-slice-read-index-2 : tie.Need-shared-slice-read-index-2 Inv-loop μ-loop
-shared-slice-read-index-2 c = search needs
-
-index-requires-2 : tie.Need-index-requires-2 Inv-loop μ-loop
-index-requires-2 c κs = search needs
 
 turn : (c : tie.After-index2 Inv-loop μ-loop)
     → Turn (c .before .before .before .before .before .before .before .args .row .now) (c .before .before .before .loop .j) (c .index2 .result) (c .before .before .before .loop .modes)
@@ -58,20 +37,8 @@ element-copy-out-if1 c = next-cell (turn c)
 returns : tie.Need-returns Inv-loop μ-loop
 returns c = (sym (named-twice (turn (c .before .before)) (c .if1 .taken)), λ e. absurd (false≢true e))
 
-mul-modes : tie.Need-mul-modes Inv-loop μ-loop
-mul-modes c = search needs
-
-add-modes : tie.Need-add-modes Inv-loop μ-loop
-add-modes c = search needs
-
-shared-slice-read-modes : tie.Need-shared-slice-read-modes Inv-loop μ-loop
-shared-slice-read-modes c = search needs
-
 element-write-modes : tie.Need-element-write-modes Inv-loop μ-loop
 element-write-modes c = next-cell (turn (c .before .before .before))
-
-loop-less : tie.Need-loop-less Inv-loop μ-loop
-loop-less c = search needs
 
 loop-again : tie.Need-loop-again Inv-loop μ-loop
 loop-again c = (search needs, passed-next (turn (c .before .before .before)) (c .before .if1 .left))
@@ -85,22 +52,7 @@ pub named-once-spec : {M : Type 1} → statement M
 named-once-spec =
     tie.close
     (tie.spec
-    Inv-loop
-    μ-loop
-    shared-slice-read-index
-    index-requires
-    loop-holds
-    sub-j
-    mul-index
-    add-index
-    shared-slice-read-index-2
-    index-requires-2
-    element-copy-out-if1
-    returns
-    mul-modes
-    add-modes
-    shared-slice-read-modes
-    element-write-modes
-    loop-less
-    loop-again
-    returns-2)
+    Inv-loop μ-loop (λ c. search needs) (λ c κs. search needs) loop-holds (λ c. search needs)
+    (λ c. search needs) (λ c. search needs) (λ c. search needs) (λ c κs. search needs) element-copy-out-if1
+    returns (λ c. search needs) (λ c. search needs) (λ c. search needs) element-write-modes
+    (λ c. search needs) loop-again returns-2)

@@ -3,14 +3,8 @@ use borrow.Author.Needs.{needs}
 use Rattle.row.proofs.owner_sound.Statement.{statement}
 use Rattle.row.proofs.owner_sound.Tie as tie
 
-shared-slice-read-wide : tie.Need-shared-slice-read-wide
-shared-slice-read-wide c = search needs
-
-wide-requires : tie.Need-wide-requires
-wide-requires c κs = search needs
-
 returns : tie.Need-returns
 returns c = cc
 
 pub owner-sound-spec : {M : Type 1} → statement M
-owner-sound-spec = tie.close (tie.spec shared-slice-read-wide wide-requires returns)
+owner-sound-spec = tie.close (tie.spec (λ c. search needs) (λ c κs. search needs) returns)

@@ -28,15 +28,9 @@ kept-10 c = sym (c .before .operations-sound .ensures) ∙ not-false _ (c .if5 .
 
 -- ---- the rules in their order
 
-owner-sound-requires : tie.Need-owner-sound-requires
-owner-sound-requires c κs = search needs
-
 returns : tie.Need-returns
 unfolding rowRefusal firstBroken
 returns c = rw (sym (c .before .owner-sound .ensures) ∙ not-true _ (c .if1 .taken))
-
-counts-sound-requires : tie.Need-counts-sound-requires
-counts-sound-requires c κs = search needs
 
 returns-2 : tie.Need-returns-2
 unfolding rowRefusal firstBroken
@@ -92,16 +86,6 @@ pub refusal-spec : {M : Type 1} → statement M
 refusal-spec =
     tie.close
     (tie.spec
-    owner-sound-requires
-    returns
-    counts-sound-requires
-    returns-2
-    accesses-sound-requires
-    returns-3
-    named-once-requires
-    returns-4
-    operations-sound-requires
-    returns-5
-    all-keep-modes-requires
-    returns-6
+    (λ c κs. search needs) returns (λ c κs. search needs) returns-2 accesses-sound-requires returns-3
+    named-once-requires returns-4 operations-sound-requires returns-5 all-keep-modes-requires returns-6
     returns-7)

@@ -8,9 +8,6 @@ use Rattle.rows.proofs.Fetches.{refused-is, row-fits, row-is, end-is}
 use Rattle.rows.proofs.fetch.Statement.{statement}
 use Rattle.rows.proofs.fetch.Tie as tie
 
-check-requires : tie.Need-check-requires
-check-requires c κs = search needs
-
 returns : tie.Need-returns
 returns c =
     refused-is (c .before .before .check .ensures) (c .before .before .before .before .args .task) (c .if1 .taken)
@@ -25,15 +22,6 @@ start-requires c κs =
           (c .if2 .taken),
     )
 
-add-copy : tie.Need-add-copy
-add-copy c = search needs
-
-sub-copy : tie.Need-sub-copy
-sub-copy c = search needs
-
-part-copy-start : tie.Need-part-copy-start
-part-copy-start c = search needs
-
 part-copy-end : tie.Need-part-copy-end
 part-copy-end c =
     omega (
@@ -43,12 +31,6 @@ part-copy-end c =
           (c .before .before .before .if1 .left)
           (c .before .if2 .taken),
     )
-
-slice-aggregate-copy : tie.Need-slice-aggregate-copy
-slice-aggregate-copy c = search needs
-
-copy-requires : tie.Need-copy-requires
-copy-requires c κs = search needs
 
 returns-2 : tie.Need-returns-2
 returns-2 c =
@@ -72,14 +54,5 @@ pub fetch-spec : {M : Type 1} → statement M
 fetch-spec =
     tie.close
     (tie.spec
-    check-requires
-    returns
-    start-requires
-    add-copy
-    sub-copy
-    part-copy-start
-    part-copy-end
-    slice-aggregate-copy
-    copy-requires
-    returns-2
-    returns-3)
+    (λ c κs. search needs) returns start-requires (λ c. search needs) (λ c. search needs) (λ c. search needs)
+    part-copy-end (λ c. search needs) (λ c κs. search needs) returns-2 returns-3)

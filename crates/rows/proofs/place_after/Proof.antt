@@ -9,9 +9,6 @@ use Rattle.rows.proofs.place_after.Tie as tie
 sub-if2 : tie.Need-sub-if2
 sub-if2 c = omega (arith, up-to 200 (c .before .args .task) (c .if1 .taken))
 
-add-result : tie.Need-add-result
-add-result c = search needs
-
 returns : tie.Need-returns
 returns c =
     let a = c .before .before .args in
@@ -31,4 +28,4 @@ returns-3 : tie.Need-returns-3
 returns-3 c = sym (stays-after (c .before .args .calls) (c .before .args .task) (c .if1 .left))
 
 pub place-after-spec : {M : Type 1} → statement M
-place-after-spec = tie.close (tie.spec sub-if2 add-result returns add-result-2 returns-2 returns-3)
+place-after-spec = tie.close (tie.spec sub-if2 (λ c. search needs) returns add-result-2 returns-2 returns-3)

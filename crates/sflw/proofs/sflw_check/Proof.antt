@@ -4,11 +4,8 @@ use Rattle.sflw.proofs.Told as told
 use Rattle.sflw.proofs.sflw_check.Statement.{statement}
 use Rattle.sflw.proofs.sflw_check.Tie as tie
 
-measure-requires : tie.Need-measure-requires
-measure-requires c κs = search needs
-
 returns : tie.Need-returns
 returns c = told.checked (c .before .measure .ensures)
 
 pub sflw-check-spec : {M : Type 1} → statement M
-sflw-check-spec = tie.close (tie.spec measure-requires returns)
+sflw-check-spec = tie.close (tie.spec (λ c κs. search needs) returns)

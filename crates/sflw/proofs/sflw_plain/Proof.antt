@@ -4,14 +4,8 @@ use Rattle.sflw.proofs.Told as told
 use Rattle.sflw.proofs.sflw_plain.Statement.{statement}
 use Rattle.sflw.proofs.sflw_plain.Tie as tie
 
-plain-requires : tie.Need-plain-requires
-plain-requires c κs = search needs
-
-same-length : tie.Need-same-length
-same-length c = search needs
-
 returns : tie.Need-returns
 returns c = told.plain (c .before .before .before .plain .ensures)
 
 pub sflw-plain-spec : {M : Type 1} → statement M
-sflw-plain-spec = tie.close (tie.spec plain-requires same-length returns)
+sflw-plain-spec = tie.close (tie.spec (λ c κs. search needs) (λ c. search needs) returns)

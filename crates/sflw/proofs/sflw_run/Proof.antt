@@ -4,14 +4,8 @@ use Rattle.sflw.proofs.Told as told
 use Rattle.sflw.proofs.sflw_run.Statement.{statement}
 use Rattle.sflw.proofs.sflw_run.Tie as tie
 
-run-requires : tie.Need-run-requires
-run-requires c κs = search needs
-
-same-length : tie.Need-same-length
-same-length c = search needs
-
 returns : tie.Need-returns
 returns c = told.ran (c .before .before .before .run .ensures)
 
 pub sflw-run-spec : {M : Type 1} → statement M
-sflw-run-spec = tie.close (tie.spec run-requires same-length returns)
+sflw-run-spec = tie.close (tie.spec (λ c κs. search needs) (λ c. search needs) returns)

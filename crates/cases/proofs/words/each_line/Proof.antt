@@ -11,65 +11,9 @@ Inv-loop text rows from₀ from = from ≤ length text + 1
 abbrev μ-loop : tie.MeasureT-loop
 μ-loop text rows from₀ from = length text - from
 
-loop-holds : tie.Need-loop-holds Inv-loop μ-loop
-loop-holds c = search needs
-
-sub-rest : tie.Need-sub-rest Inv-loop μ-loop
-sub-rest c = search needs
-
-part-rest-start : tie.Need-part-rest-start Inv-loop μ-loop
-part-rest-start c = search needs
-
-part-rest-end : tie.Need-part-rest-end Inv-loop μ-loop
-part-rest-end c = search needs
-
-until-requires : tie.Need-until-requires Inv-loop μ-loop
-until-requires c κs = search needs
-
-sub-line : tie.Need-sub-line Inv-loop μ-loop
-sub-line c = search needs
-
-part-line-start : tie.Need-part-line-start Inv-loop μ-loop
-part-line-start c = search needs
-
-part-line-end : tie.Need-part-line-end Inv-loop μ-loop
-part-line-end c = search needs
-
-line-requires : tie.Need-line-requires Inv-loop μ-loop
-line-requires c κs = search needs
-
-add-from : tie.Need-add-from Inv-loop μ-loop
-add-from c = search needs
-
-add-from-2 : tie.Need-add-from-2 Inv-loop μ-loop
-add-from-2 c = search needs
-
-loop-less : tie.Need-loop-less Inv-loop μ-loop
-loop-less c = search needs
-
-loop-again : tie.Need-loop-again Inv-loop μ-loop
-loop-again c = search needs
-
-returns : tie.Need-returns Inv-loop μ-loop
-returns c = search needs
-
 pub each-line-spec : {M : Type 1} → statement M
 each-line-spec =
     tie.close
     (tie.spec
-    Inv-loop
-    μ-loop
-    loop-holds
-    sub-rest
-    part-rest-start
-    part-rest-end
-    until-requires
-    sub-line
-    part-line-start
-    part-line-end
-    line-requires
-    add-from
-    add-from-2
-    loop-less
-    loop-again
-    returns)
+    Inv-loop μ-loop (λ c. search needs) (λ c κs. search needs) (λ c κs. search needs) (λ c. search needs)
+    (λ c. search needs) (λ c. search needs) (λ c. search needs) (λ c. search needs))

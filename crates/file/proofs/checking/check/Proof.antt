@@ -8,12 +8,6 @@ use Rattle.file.proofs.Outcomes.{check-refused, some-block, check-done}
 use Rattle.file.proofs.checking.check.Statement.{statement}
 use Rattle.file.proofs.checking.check.Tie as tie
 
-file-met-requires : tie.Need-file-met-requires
-file-met-requires c κs = search needs
-
-refused-requires : tie.Need-refused-requires
-refused-requires c κs = search needs
-
 returns : tie.Need-returns
 returns c =
     let met = c .before .before .before .file-met in
@@ -32,4 +26,4 @@ returns-2 c = check-done _ (accepted (c .before)) (c .sizes-of .result) (c .size
 
 pub check-spec : {M : Type 1} → statement M
 check-spec =
-    tie.close (tie.spec file-met-requires refused-requires returns sizes-of-requires returns-2)
+    tie.close (tie.spec (λ c κs. search needs) (λ c κs. search needs) returns sizes-of-requires returns-2)

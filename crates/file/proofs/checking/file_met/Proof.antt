@@ -10,9 +10,6 @@ use Rattle.file.proofs.Order.{length-refused, BlocksMet, block-refused,
 use Rattle.file.proofs.checking.file_met.Statement.{statement}
 use Rattle.file.proofs.checking.file_met.Tie as tie
 
-whole-blocks-requires : tie.Need-whole-blocks-requires
-whole-blocks-requires c κs = search needs
-
 returns : tie.Need-returns
 returns c =
     let file = c .before .before .before .args .file .now in
@@ -48,10 +45,5 @@ pub file-met-spec : {M : Type 1} → statement M
 file-met-spec =
     tie.close
     (tie.spec
-    whole-blocks-requires
-    returns
-    sizes-of-requires
-    blocks-met-requires
-    returns-2
-    rows-met-requires
+    (λ c κs. search needs) returns sizes-of-requires blocks-met-requires returns-2 rows-met-requires
     returns-3)

@@ -7,20 +7,15 @@ use Rattle.file.proofs.checking.whole_blocks.Tie as tie
 returns : tie.Need-returns
 returns c = none 512 10240 _ (c .if1 .taken)
 
-mul-if2 : tie.Need-mul-if2
-mul-if2 c = search needs
-
 returns-2 : tie.Need-returns-2
 returns-2 c = too-many 512 10240 _ (c .if2 .taken)
 
 returns-3 : tie.Need-returns-3
 returns-3 c = left-over 512 10240 _ (c .if3 .taken)
 
-cast-result : tie.Need-cast-result
-cast-result c = search needs
-
 returns-4 : tie.Need-returns-4
 returns-4 c = counted 512 10240 _ (c .before .before .if1 .left) (c .before .if2 .left) (c .if3 .left)
 
 pub whole-blocks-spec : {M : Type 1} → statement M
-whole-blocks-spec = tie.close (tie.spec returns mul-if2 returns-2 returns-3 cast-result returns-4)
+whole-blocks-spec =
+    tie.close (tie.spec returns (λ c. search needs) returns-2 returns-3 (λ c. search needs) returns-4)

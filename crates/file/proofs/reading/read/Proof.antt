@@ -8,12 +8,6 @@ use Rattle.file.proofs.Outcomes.{read-refused, passed-on, rows-fit, rea
 use Rattle.file.proofs.reading.read.Statement.{statement}
 use Rattle.file.proofs.reading.read.Tie as tie
 
-check-requires : tie.Need-check-requires
-check-requires c κs = search needs
-
-refused-requires : tie.Need-refused-requires
-refused-requires c κs = search needs
-
 returns : tie.Need-returns
 returns c =
     read-refused _ (c .before .if1 .taken) _ _ _ (passed-on (c .before .before .before .check .ensures) _ (c .before .if1 .taken))
@@ -21,12 +15,6 @@ returns c =
 
 mul-bytes : tie.Need-mul-bytes
 mul-bytes c = omega (arith, rows-fit (c .before .before .before .check .ensures) (c .before .if1 .left))
-
-offset-requires : tie.Need-offset-requires
-offset-requires c κs = search needs
-
-refused-requires-2 : tie.Need-refused-requires-2
-refused-requires-2 c κs = search needs
 
 returns-2 : tie.Need-returns-2
 returns-2 c =
@@ -42,9 +30,6 @@ copy-rows-requires c κs =
     let fit = rows-fit (met .ensures) (c .before .before .before .before .if1 .left) in
     (fit .0, fit .1, search needs)
 
-same-length : tie.Need-same-length
-same-length c = search needs
-
 returns-3 : tie.Need-returns-3
 returns-3 c =
     read-done (c .before .before .before .before .before .before .before .before .before .check .ensures)
@@ -58,13 +43,5 @@ pub read-spec : {M : Type 1} → statement M
 read-spec =
     tie.close
     (tie.spec
-    check-requires
-    refused-requires
-    returns
-    mul-bytes
-    offset-requires
-    refused-requires-2
-    returns-2
-    copy-rows-requires
-    same-length
-    returns-3)
+    (λ c κs. search needs) (λ c κs. search needs) returns mul-bytes (λ c κs. search needs)
+    (λ c κs. search needs) returns-2 copy-rows-requires (λ c. search needs) returns-3)

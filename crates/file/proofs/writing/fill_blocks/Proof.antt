@@ -18,9 +18,6 @@ Inv-loop rows out₀ flow blocks index₀ out index =
 abbrev μ-loop : tie.MeasureT-loop
 μ-loop rows out₀ flow blocks index₀ out index = blocks - index
 
-blocks-for-requires : tie.Need-blocks-for-requires Inv-loop μ-loop
-blocks-for-requires c κs = search needs
-
 loop-holds : tie.Need-loop-holds Inv-loop μ-loop
 loop-holds c =
     let a = c .before .before .before .args in (
@@ -28,33 +25,6 @@ loop-holds c =
       search needs,
       laid-none 512 (blockOf (a .flow .tasks) (a .flow .workers) (a .flow .cells) (a .rows .now)) (λ i. i) (a .out .now),
     )
-
-mul-offset : tie.Need-mul-offset Inv-loop μ-loop
-mul-offset c = search needs
-
-offset-requires : tie.Need-offset-requires Inv-loop μ-loop
-offset-requires c κs = search needs
-
-add-fill : tie.Need-add-fill Inv-loop μ-loop
-add-fill c = search needs
-
-sub-fill : tie.Need-sub-fill Inv-loop μ-loop
-sub-fill c = search needs
-
-part-fill-start : tie.Need-part-fill-start Inv-loop μ-loop
-part-fill-start c = search needs
-
-part-fill-end : tie.Need-part-fill-end Inv-loop μ-loop
-part-fill-end c = search needs
-
-fill-requires : tie.Need-fill-requires Inv-loop μ-loop
-fill-requires c κs = search needs
-
-add-index : tie.Need-add-index Inv-loop μ-loop
-add-index c = search needs
-
-loop-less : tie.Need-loop-less Inv-loop μ-loop
-loop-less c = search needs
 
 loop-again : tie.Need-loop-again Inv-loop μ-loop
 loop-again c =
@@ -86,19 +56,6 @@ pub fill-blocks-spec : {M : Type 1} → statement M
 fill-blocks-spec =
     tie.close
     (tie.spec
-    Inv-loop
-    μ-loop
-    blocks-for-requires
-    loop-holds
-    mul-offset
-    offset-requires
-    add-fill
-    sub-fill
-    part-fill-start
-    part-fill-end
-    fill-requires
-    add-index
-    loop-less
-    loop-again
-    same-length
-    returns)
+    Inv-loop μ-loop (λ c κs. search needs) loop-holds (λ c. search needs) (λ c κs. search needs)
+    (λ c. search needs) (λ c. search needs) (λ c. search needs) (λ c. search needs) (λ c κs. search needs)
+    (λ c. search needs) (λ c. search needs) loop-again same-length returns)

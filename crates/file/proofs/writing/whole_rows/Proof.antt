@@ -7,20 +7,11 @@ use Rattle.file.proofs.writing.whole_rows.Tie as tie
 returns : tie.Need-returns
 returns c = none 48 9600 _ (c .if1 .taken)
 
-mul-offset : tie.Need-mul-offset
-mul-offset c = search needs
-
-offset-requires : tie.Need-offset-requires
-offset-requires c κs = search needs
-
 returns-2 : tie.Need-returns-2
 returns-2 c = too-many 48 9600 (c .before .before .before .args .bytes) (search needs)
 
 returns-3 : tie.Need-returns-3
 returns-3 c = left-over 48 9600 _ (c .if3 .taken)
-
-cast-result : tie.Need-cast-result
-cast-result c = search needs
 
 returns-4 : tie.Need-returns-4
 returns-4 c =
@@ -30,4 +21,5 @@ returns-4 c =
 pub whole-rows-spec : {M : Type 1} → statement M
 whole-rows-spec =
     tie.close
-    (tie.spec returns mul-offset offset-requires returns-2 returns-3 cast-result returns-4)
+    (tie.spec
+    returns (λ c. search needs) (λ c κs. search needs) returns-2 returns-3 (λ c. search needs) returns-4)

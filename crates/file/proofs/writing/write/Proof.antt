@@ -13,12 +13,6 @@ use Rattle.file.proofs.Outcomes.{write-refused, FlowMade, flow-fits, gi
 use Rattle.file.proofs.writing.write.Statement.{statement}
 use Rattle.file.proofs.writing.write.Tie as tie
 
-whole-rows-requires : tie.Need-whole-rows-requires
-whole-rows-requires c κs = search needs
-
-refused-requires : tie.Need-refused-requires
-refused-requires c κs = search needs
-
 returns : tie.Need-returns
 returns c =
     let bytes = length (c .before .before .before .before .before .args .rows .now) in
@@ -30,17 +24,8 @@ returns c =
 whole : (c : tie.Else1) → Sound 48 9600 (length (c .before .before .before .before .args .rows .now)) (c .before .whole-rows .result)
 whole c = is-sound 48 9600 _ _ (c .before .whole-rows .ensures) (c .if1 .left)
 
-new-requires : tie.Need-new-requires
-new-requires c κs = search needs
-
-enum-known-flow : tie.Need-enum-known-flow
-enum-known-flow c = search needs
-
 enum-told : tie.Need-enum-told
 enum-told c = search needs
-
-refused-requires-2 : tie.Need-refused-requires-2
-refused-requires-2 c κs = search needs
 
 returns-2 : tie.Need-returns-2
 returns-2 c =
@@ -69,9 +54,6 @@ known c =
 given-met-requires : tie.Need-given-met-requires
 given-met-requires c κs = omega (arith, flow-fits (known (c .before)))
 
-refused-requires-3 : tie.Need-refused-requires-3
-refused-requires-3 c κs = search needs
-
 returns-3 : tie.Need-returns-3
 returns-3 c =
     write-refused _ (c .before .if2 .taken) _ _ _ _ _
@@ -84,12 +66,6 @@ blocks-for-requires c κs = omega (arith, flow-fits (known (c .before .before .b
 
 mul-bytes : tie.Need-mul-bytes
 mul-bytes c = omega (arith, flow-fits (known (c .before .before .before .before .before)))
-
-offset-requires : tie.Need-offset-requires
-offset-requires c κs = search needs
-
-refused-requires-4 : tie.Need-refused-requires-4
-refused-requires-4 c κs = search needs
 
 returns-4 : tie.Need-returns-4
 returns-4 c =
@@ -104,9 +80,6 @@ fill-blocks-requires : tie.Need-fill-blocks-requires
 fill-blocks-requires c κs =
     let fits = flow-fits (known (c .before .before .before .before .before .before .before .before)) in
     (fits .is-whole, fits .tasks-fit, fits .workers-fit, fits .cells-fit, omega arith)
-
-same-length : tie.Need-same-length
-same-length c = search needs
 
 returns-5 : tie.Need-returns-5
 returns-5 c =
@@ -124,22 +97,7 @@ pub write-spec : {M : Type 1} → statement M
 write-spec =
     tie.close
     (tie.spec
-    whole-rows-requires
-    refused-requires
-    returns
-    new-requires
-    enum-known-flow
-    enum-told
-    refused-requires-2
-    returns-2
-    given-met-requires
-    refused-requires-3
-    returns-3
-    blocks-for-requires
-    mul-bytes
-    offset-requires
-    refused-requires-4
-    returns-4
-    fill-blocks-requires
-    same-length
-    returns-5)
+    (λ c κs. search needs) (λ c κs. search needs) returns (λ c κs. search needs) (λ c. search needs)
+    enum-told (λ c κs. search needs) returns-2 given-met-requires (λ c κs. search needs) returns-3
+    blocks-for-requires mul-bytes (λ c κs. search needs) (λ c κs. search needs) returns-4
+    fill-blocks-requires (λ c. search needs) returns-5)

@@ -62,29 +62,8 @@ Inv-loop row w number private₀ count j₀ private j =
 abbrev μ-loop : tie.MeasureT-loop
 μ-loop row w number private₀ count j₀ private j = count - j
 
-shared-slice-read-index : tie.Need-shared-slice-read-index Inv-loop μ-loop
-shared-slice-read-index c = search needs
-
-index-requires : tie.Need-index-requires Inv-loop μ-loop
-index-requires c κs = search needs
-
 loop-holds : tie.Need-loop-holds Inv-loop μ-loop
 loop-holds c = (search needs, λ x. omega (arith, c .before .before .before .pre .1 .1 x), refl)
-
-mul-index : tie.Need-mul-index Inv-loop μ-loop
-mul-index c = omega arith
-
-add-index : tie.Need-add-index Inv-loop μ-loop
-add-index c = omega arith
-
-shared-slice-read-index-2 : tie.Need-shared-slice-read-index-2 Inv-loop μ-loop
-shared-slice-read-index-2 c = omega arith
-
-index-requires-2 : tie.Need-index-requires-2 Inv-loop μ-loop
-index-requires-2 c κs = search needs
-
-is-write-requires : tie.Need-is-write-requires Inv-loop μ-loop
-is-write-requires c κs = omega arith
 
 note-requires : tie.Need-note-requires Inv-loop μ-loop
 note-requires c κs =
@@ -95,12 +74,6 @@ note-requires c κs =
       rw (read .index2 .ensures .0) (pre .1 .0 (at .loop .j) (omega arith)),
       omega (arith, at .loop .inv .1 (read .index2 .result)),
     )
-
-add-j : tie.Need-add-j Inv-loop μ-loop
-add-j c = omega arith
-
-loop-less : tie.Need-loop-less Inv-loop μ-loop
-loop-less c = omega arith
 
 loop-again : tie.Need-loop-again Inv-loop μ-loop
 loop-again c =
@@ -143,18 +116,6 @@ pub register-spec : {M : Type 1} → statement M
 register-spec =
     tie.close
     (tie.spec
-    Inv-loop
-    μ-loop
-    shared-slice-read-index
-    index-requires
-    loop-holds
-    mul-index
-    add-index
-    shared-slice-read-index-2
-    index-requires-2
-    is-write-requires
-    note-requires
-    add-j
-    loop-less
-    loop-again
-    returns)
+    Inv-loop μ-loop (λ c. search needs) (λ c κs. search needs) loop-holds (λ c. omega arith)
+    (λ c. omega arith) (λ c. omega arith) (λ c κs. search needs) (λ c κs. omega arith) note-requires
+    (λ c. omega arith) (λ c. omega arith) loop-again returns)

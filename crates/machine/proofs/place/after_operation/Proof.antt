@@ -5,18 +5,6 @@ use Rattle.machine.specs.Arrays.{nextPlace}
 use Rattle.machine.proofs.place.after_operation.Statement.{statement}
 use Rattle.machine.proofs.place.after_operation.Tie as tie
 
-add-if1 : tie.Need-add-if1
-add-if1 c = search needs
-
-shared-slice-read-wide : tie.Need-shared-slice-read-wide
-shared-slice-read-wide c = search needs
-
-wide-requires : tie.Need-wide-requires
-wide-requires c κs = search needs
-
-add-t9 : tie.Need-add-t9
-add-t9 c = search needs
-
 returns : tie.Need-returns
 unfolding nextPlace
 returns c = rw (← c .before .wide .ensures .0, lt-ltb _ _ (c .if1 .taken))
@@ -27,4 +15,6 @@ returns-2 c = rw (← c .before .wide .ensures .0, le-ltb _ _ (c .if1 .left))
 
 pub after-operation-spec : {M : Type 1} → statement M
 after-operation-spec =
-    tie.close (tie.spec add-if1 shared-slice-read-wide wide-requires add-t9 returns returns-2)
+    tie.close
+    (tie.spec
+    (λ c. search needs) (λ c. search needs) (λ c κs. search needs) (λ c. search needs) returns returns-2)

@@ -9,14 +9,8 @@ use Rattle.machine.specs.Arrays.{nextPlace}
 use Rattle.machine.proofs.place.next.Statement.{statement}
 use Rattle.machine.proofs.place.next.Tie as tie
 
-after-operation-requires : tie.Need-after-operation-requires
-after-operation-requires c κs = search needs
-
 returns : tie.Need-returns
 returns c = rw (c .before .if1 .taken) (c .after-operation .ensures)
-
-offset-requires : tie.Need-offset-requires
-offset-requires c κs = search needs
 
 -- at any other stage the index is one of an access
 few : (c : tie.Else1) → c .before .before .args .index < 4
@@ -74,17 +68,6 @@ pub next-spec : {M : Type 1} → statement M
 next-spec =
     tie.close
     (tie.spec
-    after-operation-requires
-    returns
-    offset-requires
-    is-write-requires
-    after-wait-requires
-    after-wait-requires-2
-    after-end-requires
-    after-end-requires-2
-    returns-2
-    returns-3
-    returns-4
-    returns-5
-    returns-6
-    returns-7)
+    (λ c κs. search needs) returns (λ c κs. search needs) is-write-requires after-wait-requires
+    after-wait-requires-2 after-end-requires after-end-requires-2 returns-2 returns-3 returns-4 returns-5
+    returns-6 returns-7)

@@ -9,7 +9,7 @@ use Rattle.layout.specs.Row.{accessAt, operationAt}
 use Rattle.steps.specs.Operations.{effect, operated}
 use Rattle.steps.specs.Step.{writes}
 use Rattle.machine.specs.Arrays.{Arrays, arrays}
-use Rattle.machine.proofs.Changes.{five-stages, at-operation, at-access, waited, made, posted, zeroed, ended}
+use Rattle.machine.proofs.Changes.{five-stages, at-operation, at-access, waited, made, AtAccess, posted, zeroed, ended}
 use Rattle.machine.proofs.stepping.change.Statement.{statement}
 use Rattle.machine.proofs.stepping.change.Tie as tie
 
@@ -23,9 +23,6 @@ returns c =
     let a = start .args in
     waited (a .row .now) (a .w) (a .number) (a .index) (lent start) (start .pre .1 .0) (a .stage) (c .if1 .taken)
 
-offset-requires : tie.Need-offset-requires
-offset-requires c κs = search needs
-
 operate-requires : tie.Need-operate-requires
 operate-requires c κs =
     let start = c .before .before .before .before .before .before in
@@ -36,9 +33,6 @@ operate-requires c κs =
       (fits .size, omega (arith, at, fits .few-operations)),
       (fits .writes-cells (a .index) at, fits .reads-cells (a .index) at),
     )
-
-same-length : tie.Need-same-length
-same-length c = search needs
 
 returns-2 : tie.Need-returns-2
 returns-2 c =
@@ -75,40 +69,23 @@ within c =
     let start = past-operations (c .before .before) in
     rw (cell-is c) (start .pre .0 .0 .access-cells (start .args .index) (access-index (c .before .before)))
 
-mul-index : tie.Need-mul-index
-mul-index c = search needs
-
-add-index : tie.Need-add-index
-add-index c = search needs
+-- so the step is one at that access
+at-cell : (c : tie.After-index)
+    → AtAccess (past-operations (c .before .before) .args .row .now) (past-operations (c .before .before) .args .w) (past-operations (c .before .before) .args .index) (c .index .result) (lent (past-operations (c .before .before)))
+at-cell c =
+    let start = past-operations (c .before .before) in
+    record { shape = start .pre .1 .0; worker = start .pre .0 .2; within = within c; here = cell-is c }
 
 shared-slice-read-index : tie.Need-shared-slice-read-index
 shared-slice-read-index c =
     let start = c .before .before .before .before .before .before in
     omega (arith, access-index (c .before), start .pre .0 .0 .size, start .pre .0 .0 .few-accesses)
 
-index-requires : tie.Need-index-requires
-index-requires c κs = search needs
-
-mul-last : tie.Need-mul-last
-mul-last c = search needs
-
 index-1-last : tie.Need-index-1-last
 index-1-last c = within c
 
-index-2-last : tie.Need-index-2-last
-index-2-last c = search needs
-
-mul-reads : tie.Need-mul-reads
-mul-reads c = search needs
-
 index-1-reads : tie.Need-index-1-reads
 index-1-reads c = within (c .before)
-
-index-2-reads : tie.Need-index-2-reads
-index-2-reads c = search needs
-
-mul-t31 : tie.Need-mul-t31
-mul-t31 c = search needs
 
 element-set-from-shared : tie.Need-element-set-from-shared
 element-set-from-shared c = within (c .before .before .before)
@@ -123,17 +100,7 @@ note-requires c κs =
 returns-3 : tie.Need-returns-3
 returns-3 c =
     let start = c .before .before .before .before .before .before .before .before .before .before .before .before in
-    let a = start .args in
-    let read = c .before .before .before .before .before in
-    posted (a .row .now) (a .w) (a .number) (a .index) (lent start) (start .pre .1 .0)
-    (read .index .result)
-    (start .pre .0 .2)
-    (within read)
-    (cell-is read)
-    (a .stage)
-    (c .note .last .0)
-    (c .before .before .if3 .taken)
-    (c .note .ensures)
+    posted (start .args .number) (at-cell (c .before .before .before .before .before)) (start .args .stage) (c .note .last .0) (c .before .before .if3 .taken) (c .note .ensures)
 
 is-write-requires : tie.Need-is-write-requires
 is-write-requires c κs =
@@ -155,33 +122,18 @@ mode-is c =
     ap (λ (i : ℕ). writes (accessAt (past-post (c .before) .args .row .now) i)) (sym (c .before .before .before .before .before .before .before .offset .ensures))
     ∙ sym (c .is-write .ensures)
 
-mul-t38 : tie.Need-mul-t38
-mul-t38 c = search needs
-
 element-set-from-shared-2 : tie.Need-element-set-from-shared-2
 element-set-from-shared-2 c = within (c .before .before .before .before .before)
 
 returns-4 : tie.Need-returns-4
 returns-4 c =
     let start = c .before .before .before .before .before .before .before .before .before .before .before .before in
-    let a = start .args in
-    let read = c .before .before .before .before .before in
-    zeroed (a .row .now) (a .w) (a .number) (a .index) (lent start) (start .pre .1 .0)
-    (read .index .result)
-    (start .pre .0 .2)
-    (within read)
-    (cell-is read)
-    (a .stage)
-    (third (c .before .before))
-    (mode-is (c .before) ∙ c .if4 .taken)
+    zeroed (start .args .number) (at-cell (c .before .before .before .before .before)) (start .args .stage) (third (c .before .before)) (mode-is (c .before) ∙ c .if4 .taken)
 
 add-t25 : tie.Need-add-t25
 add-t25 c =
     let start = c .before .before .before .before .before .before .before .before .before .before .before .before in
     omega (arith, start .pre .1 .1 .shared-reads (c .before .before .before .before .before .index .result))
-
-mul-t17 : tie.Need-mul-t17
-mul-t17 c = search needs
 
 element-set-from-shared-3 : tie.Need-element-set-from-shared-3
 element-set-from-shared-3 c = within (c .before .before .before .before .before)
@@ -196,16 +148,7 @@ note-requires-2 c κs =
 returns-5 : tie.Need-returns-5
 returns-5 c =
     let start = c .before .before .before .before .before .before .before .before .before .before .before .before .before .before in
-    let a = start .args in
-    let read = c .before .before .before .before .before .before .before in
-    ended (a .row .now) (a .w) (a .number) (a .index) (lent start) (start .pre .1 .0)
-    (read .index .result)
-    (start .pre .0 .2)
-    (within read)
-    (cell-is read)
-    (a .stage)
-    (c .note2 .last .0)
-    (third (c .before .before .before .before))
+    ended (start .args .number) (at-cell (c .before .before .before .before .before .before .before)) (start .args .stage) (c .note2 .last .0) (third (c .before .before .before .before))
     (mode-is (c .before .before .before) ∙ c .before .before .if4 .left)
     (c .note2 .ensures)
 
@@ -213,31 +156,9 @@ pub change-spec : {M : Type 1} → statement M
 change-spec =
     tie.close
     (tie.spec
-    returns
-    offset-requires
-    operate-requires
-    same-length
-    returns-2
-    mul-index
-    add-index
-    shared-slice-read-index
-    index-requires
-    mul-last
-    index-1-last
-    index-2-last
-    mul-reads
-    index-1-reads
-    index-2-reads
-    mul-t31
-    element-set-from-shared
-    note-requires
-    returns-3
-    is-write-requires
-    mul-t38
-    element-set-from-shared-2
-    returns-4
-    add-t25
-    mul-t17
-    element-set-from-shared-3
-    note-requires-2
+    returns (λ c κs. search needs) operate-requires (λ c. search needs) returns-2 (λ c. search needs)
+    (λ c. search needs) shared-slice-read-index (λ c κs. search needs) (λ c. search needs) index-1-last
+    (λ c. search needs) (λ c. search needs) index-1-reads (λ c. search needs) (λ c. search needs)
+    element-set-from-shared note-requires returns-3 is-write-requires (λ c. search needs)
+    element-set-from-shared-2 returns-4 add-t25 (λ c. search needs) element-set-from-shared-3 note-requires-2
     returns-5)

@@ -32,15 +32,6 @@ advances m w row (suc (suc (suc (suc stage)))) index h = refl
 returns : tie.Need-returns
 returns c = let a = c .before .before .args in advances _ (a .w) (a .row .now) (a .stage) (a .index) (c .if1 .taken)
 
-offset-requires : tie.Need-offset-requires
-offset-requires c κs = search needs
-
-mul-index : tie.Need-mul-index
-mul-index c = search needs
-
-add-index : tie.Need-add-index
-add-index c = search needs
-
 -- at a wait the index is one of an access, and its cell has a counter
 known : (c : tie.Else1)
     → (c .before .before .args .index < 4) × (accessAt (c .before .before .args .row .now) (c .before .before .args .index) .cell < 32)
@@ -57,32 +48,11 @@ within c = rw (cell-is c) (known (c .before .before .before) .1)
 shared-slice-read-index : tie.Need-shared-slice-read-index
 shared-slice-read-index c = omega (arith, known (c .before .before) .0)
 
-index-requires : tie.Need-index-requires
-index-requires c κs = search needs
-
-mul-if3 : tie.Need-mul-if3
-mul-if3 c = search needs
-
-mul-if3-2 : tie.Need-mul-if3-2
-mul-if3-2 c = search needs
-
-index-1-if3 : tie.Need-index-1-if3
-index-1-if3 c = search needs
-
 index-2-if3 : tie.Need-index-2-if3
 index-2-if3 c = within (c .before)
 
-index-3-if3 : tie.Need-index-3-if3
-index-3-if3 c = search needs
-
-mul-if3-3 : tie.Need-mul-if3-3
-mul-if3-3 c = search needs
-
 index-1-if3-2 : tie.Need-index-1-if3-2
 index-1-if3-2 c = within (c .before .before)
-
-index-2-if3-2 : tie.Need-index-2-if3-2
-index-2-if3-2 c = search needs
 
 returns-2 : tie.Need-returns-2
 unfolding outcome tryAt
@@ -90,17 +60,8 @@ returns-2 c =
     let read = c .before .before .before .before in
     rw (c .before .before .before .if2 .taken, ← cell-is read, eq-eqb _ _ (c .if3 .taken))
 
-mul-wide : tie.Need-mul-wide
-mul-wide c = search needs
-
-add-wide : tie.Need-add-wide
-add-wide c = search needs
-
 shared-slice-read-wide : tie.Need-shared-slice-read-wide
 shared-slice-read-wide c = omega (arith, known (c .before .before .before .before .before .before .before .before) .0)
-
-wide-requires : tie.Need-wide-requires
-wide-requires c κs = search needs
 
 returns-3 : tie.Need-returns-3
 unfolding outcome tryAt
@@ -109,29 +70,11 @@ returns-3 c =
     let read = tested .before .before .before .before in
     rw (tested .before .before .before .if2 .taken, ← cell-is read, ne-eqb _ _ (tested .if3 .left), c .wide .ensures .0, read .index .ensures .0)
 
-mul-if4 : tie.Need-mul-if4
-mul-if4 c = search needs
-
-mul-if4-2 : tie.Need-mul-if4-2
-mul-if4-2 c = search needs
-
-index-1-if4 : tie.Need-index-1-if4
-index-1-if4 c = search needs
-
 index-2-if4 : tie.Need-index-2-if4
 index-2-if4 c = within (c .before)
 
-index-3-if4 : tie.Need-index-3-if4
-index-3-if4 c = search needs
-
-mul-if4-3 : tie.Need-mul-if4-3
-mul-if4-3 c = search needs
-
 index-1-if4-2 : tie.Need-index-1-if4-2
 index-1-if4-2 c = within (c .before .before)
-
-index-2-if4-2 : tie.Need-index-2-if4-2
-index-2-if4-2 c = search needs
 
 returns-4 : tie.Need-returns-4
 unfolding outcome tryAt
@@ -140,17 +83,8 @@ returns-4 c =
     let one : read .before .before .before .before .before .args .stage ≡ 1 = omega arith in
     rw (one, ← cell-is read, eq-eqb _ _ (c .if4 .taken))
 
-mul-wide-2 : tie.Need-mul-wide-2
-mul-wide-2 c = search needs
-
-add-wide-2 : tie.Need-add-wide-2
-add-wide-2 c = search needs
-
 shared-slice-read-wide-2 : tie.Need-shared-slice-read-wide-2
 shared-slice-read-wide-2 c = omega (arith, known (c .before .before .before .before .before .before .before .before) .0)
-
-wide-requires-2 : tie.Need-wide-requires-2
-wide-requires-2 c κs = search needs
 
 returns-5 : tie.Need-returns-5
 unfolding outcome tryAt
@@ -164,37 +98,10 @@ pub held-spec : {M : Type 1} → statement M
 held-spec =
     tie.close
     (tie.spec
-    returns
-    offset-requires
-    mul-index
-    add-index
-    shared-slice-read-index
-    index-requires
-    mul-if3
-    mul-if3-2
-    index-1-if3
-    index-2-if3
-    index-3-if3
-    mul-if3-3
-    index-1-if3-2
-    index-2-if3-2
-    returns-2
-    mul-wide
-    add-wide
-    shared-slice-read-wide
-    wide-requires
-    returns-3
-    mul-if4
-    mul-if4-2
-    index-1-if4
-    index-2-if4
-    index-3-if4
-    mul-if4-3
-    index-1-if4-2
-    index-2-if4-2
-    returns-4
-    mul-wide-2
-    add-wide-2
-    shared-slice-read-wide-2
-    wide-requires-2
-    returns-5)
+    returns (λ c κs. search needs) (λ c. search needs) (λ c. search needs) shared-slice-read-index
+    (λ c κs. search needs) (λ c. search needs) (λ c. search needs) (λ c. search needs) index-2-if3
+    (λ c. search needs) (λ c. search needs) index-1-if3-2 (λ c. search needs) returns-2 (λ c. search needs)
+    (λ c. search needs) shared-slice-read-wide (λ c κs. search needs) returns-3 (λ c. search needs)
+    (λ c. search needs) (λ c. search needs) index-2-if4 (λ c. search needs) (λ c. search needs) index-1-if4-2
+    (λ c. search needs) returns-4 (λ c. search needs) (λ c. search needs) shared-slice-read-wide-2
+    (λ c κs. search needs) returns-5)

@@ -47,33 +47,6 @@ access-at start other =
     (start .pre .1 .0)
     other
 
-mul-passed : tie.Need-mul-passed
-mul-passed c = search needs
-
-index-1-passed : tie.Need-index-1-passed
-index-1-passed c = search needs
-
-index-2-passed : tie.Need-index-2-passed
-index-2-passed c = search needs
-
-mul-stage : tie.Need-mul-stage
-mul-stage c = search needs
-
-index-1-stage : tie.Need-index-1-stage
-index-1-stage c = search needs
-
-index-2-stage : tie.Need-index-2-stage
-index-2-stage c = search needs
-
-mul-index : tie.Need-mul-index
-mul-index c = search needs
-
-index-1-index : tie.Need-index-1-index
-index-1-index c = search needs
-
-index-2-index : tie.Need-index-2-index
-index-2-index c = search needs
-
 held-requires : tie.Need-held-requires
 held-requires c κs =
     let start = c .before .before .before .before .before .before .before in
@@ -82,12 +55,6 @@ held-requires c κs =
 
 enum-told : tie.Need-enum-told
 enum-told c = search needs
-
-add-change : tie.Need-add-change
-add-change c = search needs
-
-change-requires : tie.Need-change-requires
-change-requires c κs = search needs
 
 next-requires : tie.Need-next-requires
 next-requires c κs =
@@ -104,15 +71,6 @@ next-requires c κs =
       ),
       λ other. access-at start other .0,
     )
-
-mul-t34 : tie.Need-mul-t34
-mul-t34 c = search needs
-
-element-set-from-places : tie.Need-element-set-from-places
-element-set-from-places c = search needs
-
-same-length : tie.Need-same-length
-same-length c = search needs
 
 returns : tie.Need-returns
 returns c =
@@ -143,22 +101,7 @@ pub own-step-spec : {M : Type 1} → statement M
 own-step-spec =
     tie.close
     (tie.spec
-    mul-passed
-    index-1-passed
-    index-2-passed
-    mul-stage
-    index-1-stage
-    index-2-stage
-    mul-index
-    index-1-index
-    index-2-index
-    held-requires
-    enum-told
-    add-change
-    change-requires
-    next-requires
-    mul-t34
-    element-set-from-places
-    same-length
-    returns
-    returns-2)
+    (λ c. search needs) (λ c. search needs) (λ c. search needs) (λ c. search needs) (λ c. search needs)
+    (λ c. search needs) (λ c. search needs) (λ c. search needs) (λ c. search needs) held-requires enum-told
+    (λ c. search needs) (λ c κs. search needs) next-requires (λ c. search needs) (λ c. search needs)
+    (λ c. search needs) returns returns-2)

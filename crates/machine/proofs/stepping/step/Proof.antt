@@ -19,26 +19,11 @@ use Rattle.machine.proofs.stepping.step.Tie as tie
 abbrev lent : tie.Start → Arrays
 lent start = arrays (start .args .cells .now) (start .args .shared .now) (start .args .private .now) (start .args .places .now)
 
-mul-passed : tie.Need-mul-passed
-mul-passed c = search needs
-
-index-1-passed : tie.Need-index-1-passed
-index-1-passed c = search needs
-
-index-2-passed : tie.Need-index-2-passed
-index-2-passed c = search needs
-
 returns : tie.Need-returns
 returns c =
     let start = c .before .before .before .before in
     let a = start .args in
     step-past (a .file .now) (a .tasks) (a .w) (lent start) (start .pre .0 .0) (start .pre .0 .1) (c .if1 .taken)
-
-add-start : tie.Need-add-start
-add-start c = search needs
-
-start-requires : tie.Need-start-requires
-start-requires c κs = search needs
 
 -- the tasks that the worker has gone past, and the row of the next
 abbrev passed-by : tie.Else1 → ℕ
@@ -60,27 +45,6 @@ row-is c = ap (λ (from : ℕ). part from (from + 48) (c .before .before .before
 owner-is : (c : tie.After-index) → c .index .result ≡ getD (row-of (c .before .before .before .before)) 0 0
 owner-is c = c .index .ensures .0 ∙ ap (λ (row : List ℕ). getD row 0 0) (row-is (c .before .before .before))
 
-add-row : tie.Need-add-row
-add-row c = search needs
-
-sub-row : tie.Need-sub-row
-sub-row c = search needs
-
-part-row-start : tie.Need-part-row-start
-part-row-start c = search needs
-
-part-row-end : tie.Need-part-row-end
-part-row-end c = search needs
-
-shared-slice-read-index : tie.Need-shared-slice-read-index
-shared-slice-read-index c = search needs
-
-index-requires : tie.Need-index-requires
-index-requires c κs = search needs
-
-add-register : tie.Need-add-register
-add-register c = search needs
-
 register-requires : tie.Need-register-requires
 register-requires c κs =
     let start = c .before .before .before .before .before .before .before .before .before .before in
@@ -90,15 +54,6 @@ register-requires c κs =
       (fits .size, fits .few-accesses, start .pre .0 .1),
       (fits .access-cells, start .pre .1 .private-reads (a .w)),
     )
-
-add-t24 : tie.Need-add-t24
-add-t24 c = search needs
-
-mul-t27 : tie.Need-mul-t27
-mul-t27 c = search needs
-
-element-set-from-places : tie.Need-element-set-from-places
-element-set-from-places c = search needs
 
 returns-2 : tie.Need-returns-2
 returns-2 c =
@@ -128,9 +83,6 @@ own-step-requires c κs =
       ),
     )
 
-same-length : tie.Need-same-length
-same-length c = search needs
-
 returns-3 : tie.Need-returns-3
 returns-3 c =
     let start = c .before .before .before .before .before .before .before .before .before .before .before .before .before .before .before .before in
@@ -147,24 +99,7 @@ pub step-spec : {M : Type 1} → statement M
 step-spec =
     tie.close
     (tie.spec
-    mul-passed
-    index-1-passed
-    index-2-passed
-    returns
-    add-start
-    start-requires
-    add-row
-    sub-row
-    part-row-start
-    part-row-end
-    shared-slice-read-index
-    index-requires
-    add-register
-    register-requires
-    add-t24
-    mul-t27
-    element-set-from-places
-    returns-2
-    own-step-requires
-    same-length
-    returns-3)
+    (λ c. search needs) (λ c. search needs) (λ c. search needs) returns (λ c. search needs)
+    (λ c κs. search needs) (λ c. search needs) (λ c. search needs) (λ c. search needs) (λ c. search needs)
+    (λ c. search needs) (λ c κs. search needs) (λ c. search needs) register-requires (λ c. search needs)
+    (λ c. search needs) (λ c. search needs) returns-2 own-step-requires (λ c. search needs) returns-3)

@@ -6,12 +6,6 @@ use borrow.Author.Needs.{needs}
 use Rattle.measure.proofs.turns.next_turn.Statement.{statement}
 use Rattle.measure.proofs.turns.next_turn.Tie as tie
 
-add-if2 : tie.Need-add-if2
-add-if2 c = search needs
-
-add-result : tie.Need-add-result
-add-result c = search needs
-
 returns : tie.Need-returns
 returns c = rw (lt-ltb _ _ (c .if2 .taken))
 
@@ -22,4 +16,4 @@ returns-3 : tie.Need-returns-3
 returns-3 c = rw (le-ltb (c .before .args .w + 1) (c .before .args .workers) (omega (arith, c .before .fits .workers)))
 
 pub next-turn-spec : {M : Type 1} → statement M
-next-turn-spec = tie.close (tie.spec add-if2 add-result returns returns-2 returns-3)
+next-turn-spec = tie.close (tie.spec (λ c. search needs) (λ c. search needs) returns returns-2 returns-3)

@@ -8,17 +8,11 @@ use Rattle.run.proofs.Outcomes.{plain-refused, file-refused, cells-refu
 use Rattle.run.proofs.plainly.plain.Statement.{statement}
 use Rattle.run.proofs.plainly.plain.Tie as tie
 
-check-requires : tie.Need-check-requires
-check-requires c κs = search needs
-
 returns : tie.Need-returns
 returns c =
     let a = c .before .before .before .before .before .args in
     plain-refused (a .file .now) (a .cells .now) (refusal (c .before .before .check .result .number) (c .before .before .check .result .place)) (c .if1 .taken)
     (file-refused (c .before .before .check .ensures) (a .cells .now) (c .if1 .taken))
-
-offset-requires : tie.Need-offset-requires
-offset-requires c κs = search needs
 
 returns-2 : tie.Need-returns-2
 returns-2 c =
@@ -32,9 +26,6 @@ plain-tasks-requires c κs =
     ready (c .before .before .before .before .before .check .ensures) (c .before .before .before .if1 .left) _
     (c .before .if2 .left ∙ c .before .before .offset .ensures)
 
-same-length : tie.Need-same-length
-same-length c = search needs
-
 returns-3 : tie.Need-returns-3
 returns-3 c =
     let a = c .before .before .before .before .before .before .before .before .before .before .before .args in
@@ -47,10 +38,5 @@ pub plain-spec : {M : Type 1} → statement M
 plain-spec =
     tie.close
     (tie.spec
-    check-requires
-    returns
-    offset-requires
-    returns-2
-    plain-tasks-requires
-    same-length
+    (λ c κs. search needs) returns (λ c κs. search needs) returns-2 plain-tasks-requires (λ c. search needs)
     returns-3)

@@ -19,26 +19,11 @@ Inv-loop row cells₀ count i₀ cells i =
 abbrev μ-loop : tie.MeasureT-loop
 μ-loop row cells₀ count i₀ cells i = count - i
 
-shared-slice-read-index : tie.Need-shared-slice-read-index Inv-loop μ-loop
-shared-slice-read-index c = search needs
-
-index-requires : tie.Need-index-requires Inv-loop μ-loop
-index-requires c κs = search needs
-
-loop-holds : tie.Need-loop-holds Inv-loop μ-loop
-loop-holds c = search needs
-
 operate-requires : tie.Need-operate-requires Inv-loop μ-loop
 operate-requires c κs =
     let a = c .before .before .before .before .before .before .before .args in
     let inv = c .before .before .loop .inv in
     can-operate (a .row .now) (a .cells .now) (c .before .before .loop .cells) (c .before .before .loop .i) _ (c .before .before .before .before .before .before .before .pre) (c .before .loop-test .taken) (inv .1) (inv .2)
-
-add-i : tie.Need-add-i Inv-loop μ-loop
-add-i c = search needs
-
-loop-less : tie.Need-loop-less Inv-loop μ-loop
-loop-less c = search needs
 
 loop-again : tie.Need-loop-again Inv-loop μ-loop
 unfolding taskOf
@@ -51,9 +36,6 @@ loop-again c =
       operation-next effect (getD row 2 0) (operationAt row) (c .before .before .before .before .before .loop .i) _ (c .before .before .before .before .before .loop .cells) (search needs) (inv .3) ∙ ap (afterOperations effect (drop (c .before .before .before .before .before .loop .i + 1) (taskOf row .operations))) (sym (c .before .before .operate .ensures)),
     )
 
-same-length : tie.Need-same-length Inv-loop μ-loop
-same-length c = search needs
-
 returns : tie.Need-returns Inv-loop μ-loop
 unfolding taskOf
 returns c =
@@ -65,14 +47,5 @@ pub plain-task-spec : {M : Type 1} → statement M
 plain-task-spec =
     tie.close
     (tie.spec
-    Inv-loop
-    μ-loop
-    shared-slice-read-index
-    index-requires
-    loop-holds
-    operate-requires
-    add-i
-    loop-less
-    loop-again
-    same-length
-    returns)
+    Inv-loop μ-loop (λ c. search needs) (λ c κs. search needs) (λ c. search needs) operate-requires
+    (λ c. search needs) (λ c. search needs) loop-again (λ c. search needs) returns)

@@ -26,35 +26,11 @@ abbrev μ-loop : tie.MeasureT-loop
 loop-holds : tie.Need-loop-holds Inv-loop μ-loop
 loop-holds c = search needs
 
-add-start : tie.Need-add-start Inv-loop μ-loop
-add-start c = search needs
-
-start-requires : tie.Need-start-requires Inv-loop μ-loop
-start-requires c κs = search needs
-
-add-plain-task : tie.Need-add-plain-task Inv-loop μ-loop
-add-plain-task c = search needs
-
-sub-plain-task : tie.Need-sub-plain-task Inv-loop μ-loop
-sub-plain-task c = search needs
-
-part-plain-task-start : tie.Need-part-plain-task-start Inv-loop μ-loop
-part-plain-task-start c = search needs
-
-part-plain-task-end : tie.Need-part-plain-task-end Inv-loop μ-loop
-part-plain-task-end c = search needs
-
 plain-task-requires : tie.Need-plain-task-requires Inv-loop μ-loop
 plain-task-requires c κs =
     let a = c .before .before .before .before .before .before .before .args in
     let inv = c .before .before .before .before .loop .inv in
     row-fits (a .file .now) (a .cells .now) (c .before .before .before .before .loop .cells) (a .tasks) (c .before .before .before .before .loop .done) _ (c .before .before .before .before .before .before .before .pre) (c .before .before .before .loop-test .taken) (c .before .before .start .ensures) (inv .1)
-
-add-done : tie.Need-add-done Inv-loop μ-loop
-add-done c = search needs
-
-loop-less : tie.Need-loop-less Inv-loop μ-loop
-loop-less c = search needs
 
 loop-again : tie.Need-loop-again Inv-loop μ-loop
 loop-again c =
@@ -67,9 +43,6 @@ loop-again c =
           (sym (c .before .before .plain-task .ensures ∙ ap (λ (row : List ℕ). afterOperations effect (taskOf row .operations) (c .before .before .before .before .before .before .before .loop .cells)) (row-there (a .file .now) (c .before .before .before .before .before .start .result) (c .before .before .before .before .before .before .before .loop .done + 1) (c .before .before .before .before .before .start .ensures)))),
     )
 
-same-length : tie.Need-same-length Inv-loop μ-loop
-same-length c = search needs
-
 returns : tie.Need-returns Inv-loop μ-loop
 returns c =
     let a = c .before .before .before .before .args in
@@ -80,18 +53,6 @@ pub plain-tasks-spec : {M : Type 1} → statement M
 plain-tasks-spec =
     tie.close
     (tie.spec
-    Inv-loop
-    μ-loop
-    loop-holds
-    add-start
-    start-requires
-    add-plain-task
-    sub-plain-task
-    part-plain-task-start
-    part-plain-task-end
-    plain-task-requires
-    add-done
-    loop-less
-    loop-again
-    same-length
-    returns)
+    Inv-loop μ-loop loop-holds (λ c. search needs) (λ c κs. search needs) (λ c. search needs)
+    (λ c. search needs) (λ c. search needs) (λ c. search needs) plain-task-requires (λ c. search needs)
+    (λ c. search needs) loop-again (λ c. search needs) returns)

@@ -13,12 +13,6 @@ use Rattle.run.proofs.scheduled.run.Tie as tie
 sized : (c : tie.Else2) → length (c .before .before .before .before .before .before .before .before .args .cells .now) ≡ c .before .before .before .before .check .result .cells
 sized c = c .if2 .left ∙ c .before .offset .ensures
 
-check-requires : tie.Need-check-requires
-check-requires c κs = search needs
-
-refused-requires : tie.Need-refused-requires
-refused-requires c κs = search needs
-
 returns : tie.Need-returns
 returns c =
     let a = c .before .before .before .before .before .before .before .args in
@@ -29,12 +23,6 @@ returns c =
     (plain-passed-on (a .file .now) (a .cells .now) (a .schedule .now) answer some (file-refused (met .ensures) (a .cells .now) some))
     (c .refused .ensures)
 
-offset-requires : tie.Need-offset-requires
-offset-requires c κs = search needs
-
-refused-requires-2 : tie.Need-refused-requires-2
-refused-requires-2 c κs = search needs
-
 returns-2 : tie.Need-returns-2
 returns-2 c =
     let a = c .before .before .before .before .before .before .before .before .before .args in
@@ -43,21 +31,12 @@ returns-2 c =
     (cells-refused (c .before .before .before .before .before .check .ensures) (a .cells .now) (c .before .before .before .if1 .left) (λ e. c .before .if2 .taken (e ∙ sym (c .before .before .offset .ensures)))))
     (c .refused2 .ensures)
 
-refused-requires-3 : tie.Need-refused-requires-3
-refused-requires-3 c κs = search needs
-
 returns-3 : tie.Need-returns-3
 returns-3 c =
     let a = c .before .before .before .before .before .before .before .before .before .before .args in
     run-refused (a .file .now) (a .cells .now) (a .schedule .now) (refusal 13 0) (c .refused3 .result) (λ e. omega arith)
     (too-long (c .before .before .before .before .before .before .check .ensures) (c .before .before .before .before .if1 .left) (a .cells .now) (sized (c .before .before)) (a .schedule .now) (c .before .if3 .taken))
     (c .refused3 .ensures)
-
-schedule-met-requires : tie.Need-schedule-met-requires
-schedule-met-requires c κs = search needs
-
-refused-requires-4 : tie.Need-refused-requires-4
-refused-requires-4 c κs = search needs
 
 returns-4 : tie.Need-returns-4
 returns-4 c =
@@ -78,9 +57,6 @@ walk-requires c κs =
       names promised none (a .cells .now) (sized (c .before .before .before .before .before)) (a .schedule .now) short (c .before .before .before .schedule-met .ensures) (c .before .if4 .left),
     )
 
-same-length : tie.Need-same-length
-same-length c = search needs
-
 returns-5 : tie.Need-returns-5
 returns-5 c =
     let a = c .before .before .before .before .before .before .before .before .before .before .before .before .before .before .before .before .args in
@@ -91,17 +67,6 @@ pub run-spec : {M : Type 1} → statement M
 run-spec =
     tie.close
     (tie.spec
-    check-requires
-    refused-requires
-    returns
-    offset-requires
-    refused-requires-2
-    returns-2
-    refused-requires-3
-    returns-3
-    schedule-met-requires
-    refused-requires-4
-    returns-4
-    walk-requires
-    same-length
-    returns-5)
+    (λ c κs. search needs) (λ c κs. search needs) returns (λ c κs. search needs) (λ c κs. search needs)
+    returns-2 (λ c κs. search needs) returns-3 (λ c κs. search needs) (λ c κs. search needs) returns-4
+    walk-requires (λ c. search needs) returns-5)

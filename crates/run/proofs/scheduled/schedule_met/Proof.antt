@@ -8,9 +8,8 @@ use borrow.Author.Needs.{needs}
 use borrow.Author.Tests.{lt-ltb, le-ltb}
 use lib.ListN.{length, getD}
 use lib.Dec.{ltb}
-use Rattle.layout.specs.Refusal.{unless, firstAt}
-use Rattle.file.specs.Answers.{answerOf}
-use Rattle.file.proofs.Places.{begun, passed, refused, done}
+use Rattle.layout.specs.Refusal.{unless}
+use Rattle.file.proofs.Places.{Left, begun, passed, refused, done}
 use Rattle.run.proofs.scheduled.schedule_met.Statement.{statement}
 use Rattle.run.proofs.scheduled.schedule_met.Tie as tie
 
@@ -25,68 +24,39 @@ some-worker : (schedule : List ℕ) (workers index : ℕ) → getD schedule inde
 some-worker schedule workers index h = ap (λ (b : Bool). unless b 14) (sym (lt-ltb (getD schedule index 0) workers h))
 
 abbrev Inv-loop : tie.InvT-loop
-Inv-loop schedule workers i₀ i =
-    (i ≤ length schedule) × (firstAt (number schedule workers) 0 (length schedule) ≡ firstAt (number schedule workers) i (length schedule - i))
+Inv-loop schedule workers i₀ i = Left (number schedule workers) 0 (length schedule) i
 
 abbrev μ-loop : tie.MeasureT-loop
 μ-loop schedule workers i₀ i = length schedule - i
 
 loop-holds : tie.Need-loop-holds Inv-loop μ-loop
-loop-holds c = (search needs, begun _ 0 (length (c .before .args .schedule .now)) _ (search needs))
+loop-holds c = begun _ 0 _
 
-offset-requires : tie.Need-offset-requires Inv-loop μ-loop
-offset-requires c κs = search needs
-
-offset-requires-2 : tie.Need-offset-requires-2 Inv-loop μ-loop
-offset-requires-2 c κs = search needs
-
-shared-slice-read-wide : tie.Need-shared-slice-read-wide Inv-loop μ-loop
-shared-slice-read-wide c = search needs
-
-wide-requires : tie.Need-wide-requires Inv-loop μ-loop
-wide-requires c κs = search needs
+-- the byte that is read is the one at the index
+byte-is : (c : tie.After-wide Inv-loop μ-loop)
+    → c .wide .result ≡ getD (c .before .before .before .before .before .before .before .args .schedule .now) (c .before .before .before .before .before .loop .i) 0
+byte-is c =
+    let schedule = c .before .before .before .before .before .before .before .args .schedule .now in
+    c .wide .ensures .0 ∙ ap (λ (k : ℕ). getD schedule k 0) (c .before .before .offset2 .ensures)
 
 returns : tie.Need-returns Inv-loop μ-loop
 returns c =
     let a = c .before .before .before .before .before .before .before .before .args in
-    ap answerOf
-    (refused (number (a .schedule .now) (a .workers)) _ (c .before .before .before .before .before .before .loop .i) (length (a .schedule .now))
-    (c .before .before .before .before .before .before .loop .inv .1) 14 (search needs)
-    (no-worker (a .schedule .now) (a .workers) (c .before .before .before .before .before .before .loop .i) (omega (arith, (c .before .wide .ensures .0 ∙ ap (λ (k : ℕ). getD (a .schedule .now) k 0) (c .before .before .before .offset2 .ensures))))) (λ e. omega arith))
-
-add-i : tie.Need-add-i Inv-loop μ-loop
-add-i c = search needs
-
-loop-less : tie.Need-loop-less Inv-loop μ-loop
-loop-less c = search needs
+    let loop = c .before .before .before .before .before .before .loop in
+    refused (loop .inv) (search needs) (no-worker (a .schedule .now) (a .workers) (loop .i) (omega (arith, byte-is (c .before)))) (λ e. omega arith)
 
 loop-again : tie.Need-loop-again Inv-loop μ-loop
 loop-again c =
-    let a = c .before .before .before .before .before .before .before .before .args in (
-      search needs,
-      passed (number (a .schedule .now) (a .workers)) _ (c .before .before .before .before .before .before .loop .i) (length (a .schedule .now))
-          (c .before .before .before .before .before .before .loop .inv .1) 0 (search needs)
-          (some-worker (a .schedule .now) (a .workers) (c .before .before .before .before .before .before .loop .i) (omega (arith, (c .before .wide .ensures .0 ∙ ap (λ (k : ℕ). getD (a .schedule .now) k 0) (c .before .before .before .offset2 .ensures))))) refl,
-    )
+    let a = c .before .before .before .before .before .before .before .before .args in
+    let loop = c .before .before .before .before .before .before .loop in
+    passed (loop .inv) (search needs) (some-worker (a .schedule .now) (a .workers) (loop .i) (omega (arith, byte-is (c .before)))) refl
 
 returns-2 : tie.Need-returns-2 Inv-loop μ-loop
-returns-2 c =
-    let a = c .before .before .before .before .args in
-    ap answerOf (done (number (a .schedule .now) (a .workers)) _ (c .before .before .loop .i) (length (a .schedule .now)) (c .before .before .loop .inv .1) (search needs))
+returns-2 c = done (c .before .before .loop .inv) (search needs)
 
 pub schedule-met-spec : {M : Type 1} → statement M
 schedule-met-spec =
     tie.close
     (tie.spec
-    Inv-loop
-    μ-loop
-    loop-holds
-    offset-requires
-    offset-requires-2
-    shared-slice-read-wide
-    wide-requires
-    returns
-    add-i
-    loop-less
-    loop-again
-    returns-2)
+    Inv-loop μ-loop loop-holds (λ c κs. search needs) (λ c κs. search needs) (λ c. search needs)
+    (λ c κs. search needs) returns (λ c. search needs) (λ c. search needs) loop-again returns-2)

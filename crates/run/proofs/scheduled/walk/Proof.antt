@@ -28,33 +28,12 @@ loop-holds c =
     let a = c .before .before .before .args in
     (search needs, search needs, walk-begun (a .file .now) (a .tasks) (a .cells .now) (a .schedule .now) (c .before .before .before .pre .0 .0))
 
-shared-slice-read-index : tie.Need-shared-slice-read-index Inv-loop μ-loop
-shared-slice-read-index c = search needs
-
-index-requires : tie.Need-index-requires Inv-loop μ-loop
-index-requires c κs = search needs
-
 step-requires : tie.Need-step-requires Inv-loop μ-loop
 step-requires c κs =
     let start = c .before .before .before .before .before .before .before .before .before .before .before in
     let a = start .args in
     step-ready (a .file .now) (a .tasks) (c .before .before .before .before .before .before .before .loop .inv .2) (c .before .before .before .before .before .before .loop-test .taken) (a .workers) _ (start .pre .0 .1) (start .pre .0 .2) (start .pre .1)
     (c .before .before .before .before .index .ensures .0)
-
-enum-told : tie.Need-enum-told Inv-loop μ-loop
-enum-told c = search needs
-
-add-advanced : tie.Need-add-advanced Inv-loop μ-loop
-add-advanced c = search needs
-
-add-held : tie.Need-add-held Inv-loop μ-loop
-add-held c = search needs
-
-add-i : tie.Need-add-i Inv-loop μ-loop
-add-i c = search needs
-
-loop-less : tie.Need-loop-less Inv-loop μ-loop
-loop-less c = search needs
 
 loop-again : tie.Need-loop-again Inv-loop μ-loop
 loop-again c =
@@ -74,12 +53,6 @@ done-tasks-requires c κs =
     let sound = c .before .before .loop .inv .2 .sound in
     (sound .ready, sound .standing, sound .places-size)
 
-all-past-requires : tie.Need-all-past-requires Inv-loop μ-loop
-all-past-requires c κs = search needs
-
-same-length : tie.Need-same-length Inv-loop μ-loop
-same-length c = search needs
-
 returns : tie.Need-returns Inv-loop μ-loop
 returns c =
     let a = c .before .before .before .before .before .before .before .before .before .args in
@@ -90,19 +63,6 @@ pub walk-spec : {M : Type 1} → statement M
 walk-spec =
     tie.close
     (tie.spec
-    Inv-loop
-    μ-loop
-    loop-holds
-    shared-slice-read-index
-    index-requires
-    step-requires
-    enum-told
-    add-advanced
-    add-held
-    add-i
-    loop-less
-    loop-again
-    done-tasks-requires
-    all-past-requires
-    same-length
-    returns)
+    Inv-loop μ-loop loop-holds (λ c. search needs) (λ c κs. search needs) step-requires (λ c. search needs)
+    (λ c. search needs) (λ c. search needs) (λ c. search needs) (λ c. search needs) loop-again
+    done-tasks-requires (λ c κs. search needs) (λ c. search needs) returns)

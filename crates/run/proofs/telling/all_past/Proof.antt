@@ -18,32 +18,14 @@ Inv-loop workers tasks places count w₀ w =
 abbrev μ-loop : tie.MeasureT-loop
 μ-loop workers tasks places count w₀ w = count - w
 
-offset-requires : tie.Need-offset-requires Inv-loop μ-loop
-offset-requires c κs = search needs
-
 loop-holds : tie.Need-loop-holds Inv-loop μ-loop
 unfolding each all
 loop-holds c = (search needs, search needs, refl)
-
-mul-if1 : tie.Need-mul-if1 Inv-loop μ-loop
-mul-if1 c = search needs
-
-index-1-if1 : tie.Need-index-1-if1 Inv-loop μ-loop
-index-1-if1 c = search needs
-
-index-2-if1 : tie.Need-index-2-if1 Inv-loop μ-loop
-index-2-if1 c = search needs
 
 returns : tie.Need-returns Inv-loop μ-loop
 returns c =
     let a = c .before .before .before .before .before .args in
     some-left (a .tasks) (a .workers) (c .before .before .before .loop .w) (a .places .now) (search needs) (c .if1 .taken)
-
-add-w : tie.Need-add-w Inv-loop μ-loop
-add-w c = search needs
-
-loop-less : tie.Need-loop-less Inv-loop μ-loop
-loop-less c = search needs
 
 loop-again : tie.Need-loop-again Inv-loop μ-loop
 loop-again c = (search needs, search needs, one-more (c .before .before .before .before .before .args .tasks) (c .before .before .before .loop .w) (c .before .before .before .before .before .args .places .now) (c .before .before .before .loop .inv .2) (c .if1 .left))
@@ -57,15 +39,5 @@ pub all-past-spec : {M : Type 1} → statement M
 all-past-spec =
     tie.close
     (tie.spec
-    Inv-loop
-    μ-loop
-    offset-requires
-    loop-holds
-    mul-if1
-    index-1-if1
-    index-2-if1
-    returns
-    add-w
-    loop-less
-    loop-again
-    returns-2)
+    Inv-loop μ-loop (λ c κs. search needs) loop-holds (λ c. search needs) (λ c. search needs)
+    (λ c. search needs) returns (λ c. search needs) (λ c. search needs) loop-again returns-2)

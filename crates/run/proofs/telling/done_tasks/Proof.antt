@@ -24,51 +24,15 @@ Inv-loop file tasks cells places done₀ index₀ done index =
 abbrev μ-loop : tie.MeasureT-loop
 μ-loop file tasks cells places done₀ index₀ done index = tasks - index
 
-loop-holds : tie.Need-loop-holds Inv-loop μ-loop
-loop-holds c = search needs
-
-add-start : tie.Need-add-start Inv-loop μ-loop
-add-start c = search needs
-
-start-requires : tie.Need-start-requires Inv-loop μ-loop
-start-requires c κs = search needs
-
-shared-slice-read-index : tie.Need-shared-slice-read-index Inv-loop μ-loop
-shared-slice-read-index c = search needs
-
-index-requires : tie.Need-index-requires Inv-loop μ-loop
-index-requires c κs = search needs
-
-mul-passed : tie.Need-mul-passed Inv-loop μ-loop
-mul-passed c = search needs
-
 index-1-passed : tie.Need-index-1-passed Inv-loop μ-loop
 index-1-passed c =
     let a = c .before .before .before .before .before .before .args in
     owner-read (a .file .now) (a .tasks) (a .cells) (c .before .before .before .before .loop .index) (c .before .before .start .result) (c .index .result) (c .before .before .before .before .before .before .pre .0) (c .before .before .before .loop-test .taken) (c .before .before .start .ensures) (c .index .ensures .0) .1
 
-index-2-passed : tie.Need-index-2-passed Inv-loop μ-loop
-index-2-passed c = search needs
-
-mul-stage : tie.Need-mul-stage Inv-loop μ-loop
-mul-stage c = search needs
-
 index-1-stage : tie.Need-index-1-stage Inv-loop μ-loop
 index-1-stage c =
     let a = c .before .before .before .before .before .before .before .args in
     owner-read (a .file .now) (a .tasks) (a .cells) (c .before .before .before .before .before .loop .index) (c .before .before .before .start .result) (c .before .index .result) (c .before .before .before .before .before .before .before .pre .0) (c .before .before .before .before .loop-test .taken) (c .before .before .before .start .ensures) (c .before .index .ensures .0) .1
-
-index-2-stage : tie.Need-index-2-stage Inv-loop μ-loop
-index-2-stage c = search needs
-
-add-done : tie.Need-add-done Inv-loop μ-loop
-add-done c = search needs
-
-add-index : tie.Need-add-index Inv-loop μ-loop
-add-index c = search needs
-
-loop-less : tie.Need-loop-less Inv-loop μ-loop
-loop-less c = search needs
 
 loop-again : tie.Need-loop-again Inv-loop μ-loop
 loop-again c =
@@ -96,21 +60,7 @@ pub done-tasks-spec : {M : Type 1} → statement M
 done-tasks-spec =
     tie.close
     (tie.spec
-    Inv-loop
-    μ-loop
-    loop-holds
-    add-start
-    start-requires
-    shared-slice-read-index
-    index-requires
-    mul-passed
-    index-1-passed
-    index-2-passed
-    mul-stage
-    index-1-stage
-    index-2-stage
-    add-done
-    add-index
-    loop-less
-    loop-again
+    Inv-loop μ-loop (λ c. search needs) (λ c. search needs) (λ c κs. search needs) (λ c. search needs)
+    (λ c κs. search needs) (λ c. search needs) index-1-passed (λ c. search needs) (λ c. search needs)
+    index-1-stage (λ c. search needs) (λ c. search needs) (λ c. search needs) (λ c. search needs) loop-again
     returns)
