@@ -1,9 +1,10 @@
 -- Laws of `each` and `all`: what stands where, one member more, and what a test of all tells of one.
 use mathlib.Core.Path.{_≡_, refl, sym, ap, _∙_}
-use mathlib.Core.Bool.{Bool, true, false, _&&_, false≢true}
+use mathlib.Core.Bool.{Bool, true, false, _&&_, true≢false, false≢true}
 use mathlib.Core.List.{List, [], _∷_, _++_}
 use Prim.Native.Nat.{ℕ, zero, suc, _+_, _<_}
 use native.Mathlib.Nat.{not-suc-le-zero, le-of-suc-le-suc}
+use native.Mathlib.Omega.{arith}
 use native.Mathlib.Numerals.{add-one}
 use lib.ListN.{length, getD}
 use Rattle.layout.specs.Lists.{each, all}
@@ -73,6 +74,25 @@ module _ {A : Type 0} where
   all-more p n f before here =
       ap (all p) (each-more n f) ∙ all-append p (each n f) (f n ∷ [])
       ∙ and-both (all p (each n f)) (p (f n) && true) before (and-both (p (f n)) true here refl)
+
+  -- where each passes, all do
+  pub all-pass : (p : A → Bool) (n : ℕ) (f : ℕ → A) → ((i : ℕ) → i < n → p (f i) ≡ true) → all p (each n f) ≡ true
+  unfolding each all
+  all-pass p zero f h = refl
+  all-pass p (suc n) f h =
+      and-both (p (f 0)) _ (h 0 (omega arith)) (all-pass p n (λ i. f (suc i)) (λ i l. h (suc i) (omega arith)))
+
+  -- where not all pass, one does not
+  pub all-fails : (p : A → Bool) (n : ℕ) (f : ℕ → A) → all p (each n f) ≡ false → (i : ℕ) × (i < n) × (p (f i) ≡ false)
+  unfolding each all
+  all-fails p zero f e = absurd (true≢false e)
+  all-fails p (suc n) f e = go (p (f 0)) refl e (all-fails p n (λ i. f (suc i)))
+    where
+      go : (b : Bool) → p (f 0) ≡ b → (b && all p (each n (λ i. f (suc i)))) ≡ false
+          → (all p (each n (λ i. f (suc i))) ≡ false → (i : ℕ) × (i < n) × (p (f (suc i)) ≡ false))
+          → (i : ℕ) × (i < suc n) × (p (f i) ≡ false)
+      go false same e later = (0, omega arith, same)
+      go true same e later = (suc (later e .0), omega (arith, later e .1), later e .2)
 
   pub all-keeps : (p : A → Bool) (n : ℕ) (f : ℕ → A) (i : ℕ) → i < n → all p (each n f) ≡ true → p (f i) ≡ true
   unfolding each all

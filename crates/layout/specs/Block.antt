@@ -26,7 +26,7 @@ blocksFor tasks = (tasks + 9) / 10
 abbrev pub rowsIn : ℕ → ℕ → ℕ
 rowsIn tasks index = min 10 (tasks - 10 * index)
 
--- ---- the rules of a block. What stands before the block is what the file states: blocks, and block 0's tasks, workers, cells
+-- ---- the rules of a block. Before the block come the file's number of blocks, block 0's tasks, workers and cells, and this block's number
 
 -- 2: check A and check B over bytes 0-509. "The stored byte must equal the sum"
 abbrev pub checkSound : List ℕ → Bool
@@ -87,5 +87,6 @@ bodyOf tasks workers cells rows index =
 abbrev pub sealed : List ℕ → List ℕ
 sealed body = body ++ (fletcher body .a ∷ fletcher body .b ∷ [])
 
+-- the block of that number
 unfoldable pub blockOf : ℕ → ℕ → ℕ → List ℕ → ℕ → List ℕ
 blockOf tasks workers cells rows index = sealed (bodyOf tasks workers cells rows index)

@@ -61,24 +61,25 @@ fileAnswer file =
     orElse (refusal (unless (lengthSound (length file)) 1) 0)
     (orElse (firstAt (blockNumber file) 0 (blocksOf file)) (firstAt (rowNumber file) 1 (tasksOf file)))
 
+-- the first so many tasks of a file
+abbrev pub tasksIn : List ℕ → ℕ → List Task
+tasksIn file tasks = each tasks (λ i. taskOf (rowAt file (i + 1)))
+
 -- the flow that a file holds
 unfoldable pub flowOf : List ℕ → Flow
-flowOf file =
-    record {
-      workers = workersOf file;
-      cells = cellsOf file;
-      tasks = each (tasksOf file) (λ i. taskOf (rowAt file (i + 1)));
-    }
+flowOf file = record { workers = workersOf file; cells = cellsOf file; tasks = tasksIn file (tasksOf file) }
 
 -- a file is refused, or it is accepted as a flow
 pub data Checked : Type 0 where
   refused : Answer → Checked
   accepted : Flow → Checked
 
+-- no refusal is 0
 unfoldable pub checkedAs : ℕ → ℕ → Flow → Checked
 checkedAs zero place flow = accepted flow
 checkedAs (suc number) place flow = refused (refusal (suc number) place)
 
+-- the check: from bytes to a refusal or the accepted flow
 abbrev pub check : List ℕ → Checked
 check file = checkedAs (fileAnswer file .number) (fileAnswer file .place) (flowOf file)
 

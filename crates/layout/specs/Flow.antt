@@ -16,7 +16,7 @@ pub record Operation : Type 0 where
   pub b : ℕ
   pub k : ℕ
 
--- "A task has an owner, 1 to 4 accesses and 0 to 6 operations"
+-- a task: its owner, its accesses and its operations, each in listed order
 pub record Task : Type 0 where
   pub owner : ℕ
   pub accesses : List Access
@@ -28,6 +28,7 @@ pub record Flow : Type 0 where
   pub cells : ℕ
   pub tasks : List Task
 
+-- the limits of a flow and of a task
 abbrev pub mostTasks : ℕ
 mostTasks = 200
 
@@ -37,6 +38,7 @@ mostWorkers = 8
 abbrev pub mostCells : ℕ
 mostCells = 32
 
+-- "1 to 4 accesses and 0 to 6 operations"
 abbrev pub mostAccesses : ℕ
 mostAccesses = 4
 

@@ -33,6 +33,7 @@ taskOf row =
 
 -- ---- the row of a task
 
+-- an access's two bytes, an operation's six
 abbrev pub accessBytes : Access → List ℕ
 accessBytes access = access .cell ∷ access .mode ∷ []
 

@@ -47,6 +47,7 @@ rowsAnswer rows workers cells =
     (orElse (refusal (unless (inRange (rowCount rows) workers cells) 4) 0)
     (firstAt (λ task. rowRefusal workers cells (rowOfTask rows task)) 1 (rowCount rows)))
 
+-- and 16: the lent output is shorter than needed
 unfoldable pub writeAnswer : List ℕ → ℕ → ℕ → ℕ → Answer
 writeAnswer rows workers cells room =
     orElse (rowsAnswer rows workers cells) (refusal (unless (leb (512 * blocksFor (rowCount rows)) room) 16) 0)

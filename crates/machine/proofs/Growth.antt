@@ -10,12 +10,12 @@ use lib.Seq.{getD-drop}
 use lib.Dec.{eqb}
 use Rattle.layout.specs.Flow.{Access, Task}
 use Rattle.layout.specs.Row.{taskOf}
-use Rattle.layout.specs.File.{rowAt}
+use Rattle.layout.specs.File.{rowAt, tasksIn}
 use Rattle.layout.proofs.Lists.{each-length, each-at}
 use Rattle.steps.specs.Operations.{Effect}
 use Rattle.steps.specs.Machine.{Counter, Place, Machine, put, counter, place, withPlace}
 use Rattle.steps.specs.Step.{Try, waitWrite, waitReads, operate, endRead, zeroReads, postWrite, writes, Setting, Outcome, outcome, moved, advanced, pastLast, writeDiffers, readsDiffer, afterRead, registered, registerAll, change, attempted, ownSteps, ownStep, otherStep, stepFrom, step}
-use Rattle.machine.specs.Arrays.{ReadsAtMost, Ready, settingIn, tasksIn}
+use Rattle.machine.specs.Arrays.{ReadsAtMost, Ready, settingIn}
 use Rattle.machine.proofs.Places.{access-count, shown-within}
 
 -- a higher limit

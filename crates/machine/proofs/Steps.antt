@@ -11,12 +11,12 @@ use lib.ListN.{length, getD, set, drop, length-set}
 use lib.Dec.{eqb}
 use Rattle.layout.specs.Flow.{Access, Task}
 use Rattle.layout.specs.Row.{taskOf}
-use Rattle.layout.specs.File.{rowAt}
+use Rattle.layout.specs.File.{rowAt, tasksIn}
 use Rattle.layout.proofs.Modes.{each-drop, each-drop-all}
 use Rattle.steps.specs.Operations.{Effect, effect}
 use Rattle.steps.specs.Machine.{Place, Machine, place, withRow, withPlace}
 use Rattle.steps.specs.Step.{Try, waitWrite, waitReads, operate, endRead, zeroReads, postWrite, Outcome, advanced, pastLast, outcome, registerAll, change, ownSteps, moved, stepped, attempted, ownStep, otherStep, stepFrom, step}
-use Rattle.machine.specs.Arrays.{Arrays, arrays, machineOf, placeOf, tryAt, Stands, nextPlace, madeIn, madeAt, notedAll, Shape, RowFits, Ready, Standing, Sound, tasksIn, settingIn, passedAt, stageAt, indexAt, OwnStep, StepDone}
+use Rattle.machine.specs.Arrays.{Arrays, arrays, machineOf, placeOf, tryAt, Stands, nextPlace, madeIn, madeAt, notedAll, Shape, RowFits, Ready, Standing, Sound, settingIn, passedAt, stageAt, indexAt, OwnStep, StepDone}
 use Rattle.machine.proofs.Places.{access-count, access-there, try-there, next-there, next-stands, none-made}
 use Rattle.machine.proofs.Machines.{stored-at, all-noted-only, row-replaced, place-stored, outcome-of, change-of}
 use Rattle.machine.proofs.Changes.{Changed}

@@ -18,13 +18,15 @@ use Rattle.layout.specs.Lists.{each}
 use Rattle.layout.specs.Flow.{Access, Operation, Task}
 use Rattle.layout.specs.Row.{accessAt, operationAt, taskOf}
 use Rattle.layout.specs.Block.{blocksFor}
-use Rattle.layout.specs.File.{rowAt}
+use Rattle.layout.specs.File.{rowAt, tasksIn}
 use Rattle.steps.specs.Operations.{effect}
 use Rattle.steps.specs.Machine.{Counter, Place, Machine, counter, place, withPlace}
+use Rattle.steps.specs.Run.{settingFor}
 use Rattle.steps.specs.Step.{Try, waitWrite, waitReads, operate, endRead, zeroReads, postWrite, writes, Setting, Outcome, outcome, change, Stepped, stepped, attempted, step}
 
 -- ---- counters
 
+-- two numbers as a counter, and the counter of a cell in a row
 abbrev pub counterOf : List ℕ → Counter
 counterOf numbers = counter (getD numbers 0 0) (getD numbers 1 0)
 
@@ -61,6 +63,7 @@ unfoldable pub madeIn : List Task → ℕ → ℕ → ℕ
 madeIn [] stage index = 0
 madeIn (task ∷ later) stage index = madeAt task stage index
 
+-- three numbers as a place, under a list of tasks
 abbrev pub placeOf : List Task → List ℕ → Place
 placeOf tasks numbers = place (getD numbers 0 0) (madeIn (drop (getD numbers 0 0) tasks) (getD numbers 1 0) (getD numbers 2 0))
 
@@ -88,6 +91,7 @@ machineOf tasks kept =
 
 -- ---- what an own step tries, by stage and index
 
+-- the step of the rules
 unfoldable pub tryAt : List ℕ → ℕ → ℕ → Try
 tryAt row zero index = waitWrite (accessAt row index .cell)
 tryAt row (suc zero) index = waitReads (accessAt row index .cell)
@@ -114,6 +118,7 @@ afterWait row passed index =
 abbrev pub afterEnd : List ℕ → ℕ → ℕ → List ℕ
 afterEnd row passed index = cond (ltb (index + 1) (getD row 1 0)) (passed ∷ 3 ∷ (index + 1) ∷ []) ((passed + 1) ∷ 0 ∷ 0 ∷ [])
 
+-- by the stage
 unfoldable pub nextPlace : List ℕ → ℕ → ℕ → ℕ → List ℕ
 nextPlace row passed zero index = cond (writes (accessAt row index)) (passed ∷ 1 ∷ index ∷ []) (afterWait row passed index)
 nextPlace row passed (suc zero) index = afterWait row passed index
@@ -133,6 +138,7 @@ noted private w cell isWrite number =
     (cond isWrite (number ∷ 0 ∷ [])
     (getD (getD (getD private w []) cell []) 0 0 ∷ (getD (getD (getD private w []) cell []) 1 0 + 1) ∷ [])))
 
+-- one after another, those of all accesses
 unfoldable pub notedAll : List (List (List ℕ)) → ℕ → ℕ → List Access → List (List (List ℕ))
 notedAll private w number [] = private
 notedAll private w number (access ∷ accesses) =
@@ -182,13 +188,9 @@ pub record Sound (file : List ℕ) (tasks : ℕ) (kept : Arrays) : Type 0 where
 
 -- ---- what a step does to the arrays
 
--- the tasks of a file
-abbrev pub tasksIn : List ℕ → ℕ → List Task
-tasksIn file tasks = each tasks (λ i. taskOf (rowAt file (i + 1)))
-
 -- the setting of a file's run
 abbrev pub settingIn : List ℕ → ℕ → Setting
-settingIn file tasks = record { tasks = tasksIn file tasks; number = λ t. t; does = effect }
+settingIn file tasks = settingFor (tasksIn file tasks)
 
 -- a worker's stage and index, and the tasks that it has gone past
 abbrev pub passedAt : Arrays → ℕ → ℕ

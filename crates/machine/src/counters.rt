@@ -1,5 +1,5 @@
 // The private counters. They are updated in one place, `note`.
-use crate::Rows;
+use crate::AllCounters;
 ghost use mathlib.Core.Path.{_≡_};
 ghost use mathlib.Core.List.{[]};
 ghost use Prim.Native.Nat.{ℕ, _+_, _<_, _≤_};
@@ -18,7 +18,7 @@ pub fn is_write(row: &[u8], index: usize) -> bool
 }
 
 // One counter of a worker's row: a write sets it, a read adds 1 to its reads.
-pub(crate) fn note(private: &mut Rows, w: usize, cell: usize, write: bool, number: u32)
+pub(crate) fn note(private: &mut AllCounters, w: usize, cell: usize, write: bool, number: u32)
     requires { ⌜ (w < 8) × (cell < 32) × (getD (getD (getD (now «private») w []) cell []) 1 0 < 4294967295) ⌝ }
     ensures { λ _. ⌜ now («private» .exit) ≡ noted (now («private» .entry)) w cell write number ⌝ }
 {
@@ -32,7 +32,7 @@ pub(crate) fn note(private: &mut Rows, w: usize, cell: usize, write: bool, numbe
 }
 
 // A task of another owner: each of its accesses is registered in the worker's row.
-pub(crate) fn register(row: &[u8], w: usize, number: u32, private: &mut Rows)
+pub(crate) fn register(row: &[u8], w: usize, number: u32, private: &mut AllCounters)
     requires { ⌜ (length (now row) ≡ 48) × (getD (now row) 1 0 ≤ 4) × (w < 8) ⌝ }
     requires { ⌜ ((j : ℕ) → j < getD (now row) 1 0 → accessAt (now row) j .cell < 32) ⌝ }
     requires { ⌜ ((c : ℕ) → getD (getD (getD (now «private») w []) c []) 1 0 ≤ 300000) ⌝ }

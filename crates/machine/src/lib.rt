@@ -2,7 +2,7 @@
 // each worker's place.
 pub mod counters;
 pub mod effect;
-pub mod place;
+mod place;
 pub mod stepping;
 
 use flow::Flow;
@@ -10,12 +10,14 @@ use flow::Flow;
 // The last write and the reads since it.
 pub type Counter = [u32; 2];
 
-// A counter for each cell, and such a row for each worker.
-pub type Row = [Counter; Flow::ROOM_FOR_CELLS];
+// A row of counters, one for each cell; and such a row for each worker.
+pub type Counters = [Counter; Flow::ROOM_FOR_CELLS];
 
-pub type Rows = [Row; Flow::ROOM_FOR_WORKERS];
+pub type AllCounters = [Counters; Flow::ROOM_FOR_WORKERS];
 
-// Tasks gone past, a stage and an index; and such a place for each worker.
+// A worker's place: the tasks gone past, the stage of the next task, and the index of an access or an operation. And such a place for
+// each worker. At stage 0 the worker waits for the access's last write, at 1 for its reads, at 2 it makes the operation, at 3 it ends
+// the access (of a write, it sets the shared reads to 0), and at 4 it posts the write.
 pub type Place = [u32; 3];
 
 pub type Places = [Place; Flow::ROOM_FOR_WORKERS];

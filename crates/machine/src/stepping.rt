@@ -1,8 +1,8 @@
 // One step of a named worker: whether it is held, what it changes, and its next place.
+use crate::AllCounters;
+use crate::Counters;
 use crate::Outcome;
 use crate::Places;
-use crate::Row;
-use crate::Rows;
 use crate::counters::is_write;
 use crate::counters::note;
 use crate::counters::register;
@@ -15,11 +15,19 @@ ghost use lib.ListN.{length, getD};
 ghost use Rattle.layout.specs.Row.{accessAt};
 ghost use Rattle.steps.specs.Operations.{effect};
 ghost use Rattle.steps.specs.Step.{outcome, change as changed};
-ghost use Rattle.machine.specs.Arrays.{arrays, machineOf, passedAt, stageAt, indexAt, tryAt, Stands, Shape, RowFits, ReadsAtMost, Sound, OwnStep, StepDone, tasksIn};
+ghost use Rattle.layout.specs.File.{tasksIn};
+ghost use Rattle.machine.specs.Arrays.{arrays, machineOf, passedAt, stageAt, indexAt, tryAt, Stands, Shape, RowFits, ReadsAtMost, Sound, OwnStep, StepDone};
 ghost use Rattle.machine.specs.Outcomes.{outcomeOf};
 
 // Whether the own step at a stage and an index is held, and why.
-fn held(row: &[u8], w: usize, stage: u32, index: u32, shared: &Row, private: &Rows) -> Outcome
+fn held(
+    row: &[u8],
+    w: usize,
+    stage: u32,
+    index: u32,
+    shared: &Counters,
+    private: &AllCounters,
+) -> Outcome
     requires { ⌜ (length (now row) ≡ 48) × (w < 8) ⌝ }
     requires { ⌜ (stage < 2 → (index < 4) × (accessAt (now row) index .cell < 32)) ⌝ }
     ensures { λ r. ⌜ outcomeOf r ≡ outcome (machineOf [] (arrays [] (now (shared .entry)) (now («private» .entry)) [])) w (tryAt (now (row .entry)) stage index) ⌝ }
@@ -49,8 +57,8 @@ fn change(
     stage: u32,
     index: u32,
     cells: &mut [u32],
-    shared: &mut Row,
-    private: &mut Rows,
+    shared: &mut Counters,
+    private: &mut AllCounters,
 )
     requires { ⌜ RowFits (now row) (length (now cells)) × Stands (now row) stage index × (w < 8) ⌝ }
     requires { ⌜ Shape (now shared) (now «private») × ReadsAtMost 300000 (machineOf [] (arrays [] (now shared) (now «private») [])) ⌝ }
@@ -85,8 +93,8 @@ fn own_step(
     row: &[u8],
     w: usize,
     cells: &mut [u32],
-    shared: &mut Row,
-    private: &mut Rows,
+    shared: &mut Counters,
+    private: &mut AllCounters,
     places: &mut Places,
 ) -> Outcome
     requires { ⌜ RowFits (now row) (length (now cells)) × (w < 8) × (length (now places) ≡ 8) × (getD (getD (now places) w []) 0 0 < 200) ⌝ }
@@ -111,8 +119,8 @@ pub fn step(
     tasks: u32,
     w: usize,
     cells: &mut [u32],
-    shared: &mut Row,
-    private: &mut Rows,
+    shared: &mut Counters,
+    private: &mut AllCounters,
     places: &mut Places,
 ) -> Outcome
     requires { ⌜ Sound (now file) tasks (arrays (now cells) (now shared) (now «private») (now places)) × (w < 8) ⌝ }

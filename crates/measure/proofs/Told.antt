@@ -8,7 +8,7 @@ use borrow.Author.Tests.{ne-eqb}
 use lib.Dec.{eqb}
 use lib.ListN.{length}
 use Rattle.layout.specs.Flow.{Flow, Task}
-use Rattle.layout.specs.File.{fileAnswer, flowOf, tasksOf, workersOf, cellsOf}
+use Rattle.layout.specs.File.{fileAnswer, flowOf, tasksOf, workersOf, cellsOf, tasksIn}
 use Rattle.layout.specs.Refusal as Rules
 use Rattle.layout.proofs.Lists.{each-length}
 use Rattle.roundtrip.specs.Sound.{Sizes}
@@ -19,7 +19,6 @@ use Rattle.steps.specs.Run.{totalOf, total}
 use Rattle.file.specs.declared.CheckAnswer.{CheckAnswer}
 use Rattle.file.specs.Promises.{CheckPromise}
 use Rattle.run.proofs.Accepted.{same-answer, accepted, tasks-are, workers-are, cells-are, tasks-held, workers-held, cells-held}
-use Rattle.machine.specs.Arrays.{tasksIn}
 use Rattle.measure.specs.Promises.{measuredOf, MeasurePromise}
 use Rattle.measure.specs.declared.Measured.{Measured}
 

@@ -10,10 +10,9 @@ use Rattle.layout.specs.Flow.{Flow}
 use Rattle.layout.specs.Row.{taskOf, rowOf, accessAt, operationAt, operationInRange, operationSound}
 use Rattle.layout.specs.File.{rowStart, rowAt, tasksOf, workersOf, cellsOf, flowOf, rowsOf, checkedAs, accepted, check}
 use Rattle.layout.specs.Write.{flowRows, flowBytes}
-use Rattle.layout.proofs.Lists.{and-left, each-length, each-at, all-keeps}
+use Rattle.layout.proofs.Lists.{and-left, each-length, each-at, all-pass, all-keeps}
 use Rattle.roundtrip.specs.Sound.{TaskSound, Sound}
 use Rattle.roundtrip.proofs.Pieces.{joined-same}
-use Rattle.roundtrip.proofs.Kept.{all-pass}
 use Rattle.roundtrip.proofs.Below.{bytes-part}
 use Rattle.roundtrip.proofs.Rows.{RowKept, row-keeps, row-back}
 use Rattle.roundtrip.proofs.Answers.{FileKept, file-keeps}

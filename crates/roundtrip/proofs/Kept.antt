@@ -10,7 +10,7 @@ use native.Mathlib.Omega.{arith}
 use borrow.Author.Tests.{ltb-true, eqb-true, eqb-false}
 use lib.ListN.{getD}
 use lib.Dec.{eqb, ltb}
-use Rattle.layout.specs.Lists.{each, all}
+use Rattle.layout.specs.Lists.{all}
 use Rattle.layout.specs.Refusal.{Answer, success, refusal, unless, orElse, firstBroken, firstAt}
 use Rattle.layout.proofs.Lists.{and-left, and-right, and-both}
 
@@ -90,12 +90,3 @@ rule-kept [] n h i = refl
 rule-kept (rule ∷ rules) n h zero = both-kept rule rules n h .0
 rule-kept (rule ∷ rules) n h (suc i) =
     rule-kept rules (and-right (ltb 0 (rule .0)) (numbered rules) n) (both-kept rule rules n h .1) i
-
--- ---- one test on each of several things
-
-pub all-pass : {A : Type 0} (test : A → Bool) (n : ℕ) (f : ℕ → A) → ((i : ℕ) → i < n → test (f i) ≡ true)
-    → all test (each n f) ≡ true
-unfolding each all
-all-pass test zero f h = refl
-all-pass test (suc n) f h =
-    and-both (test (f 0)) _ (h 0 (omega arith)) (all-pass test n (λ i. f (suc i)) (λ i l. h (suc i) (omega arith)))

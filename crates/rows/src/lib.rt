@@ -86,7 +86,7 @@ pub fn moved<'a>(rows: Rows<'a>, calls: u32) -> Rows<'a>
     }
 }
 
-// What a new reader answers after so many calls. Its parameters are plain, so who calls it needs no walk.
+// What a new reader answers after so many calls. It takes the file itself, so that a program needs no reader of its own.
 pub fn nth(file: &[u8], calls: u32) -> Fetched
     ensures { λ r. ⌜ Answered (now (file .entry)) (placeAfter calls 1) r ⌝ }
 {

@@ -10,7 +10,7 @@ use lib.Dec.{eqb}
 use Rattle.layout.specs.Refusal as Rules
 use Rattle.layout.specs.Refusal.{refusal}
 use Rattle.layout.specs.Row.{operationsSound}
-use Rattle.layout.specs.File.{rowAt, tasksOf, workersOf, cellsOf, fileAnswer, flowOf}
+use Rattle.layout.specs.File.{rowAt, tasksOf, workersOf, cellsOf, fileAnswer, flowOf, tasksIn}
 use Rattle.layout.proofs.Lists.{and-both}
 use Rattle.layout.proofs.Modes.{access-cell, operation-cells}
 use Rattle.roundtrip.specs.Sound.{Sizes}
@@ -19,7 +19,7 @@ use Rattle.roundtrip.proofs.Answers.{FileKept, file-keeps}
 use Rattle.roundtrip.proofs.Read.{fewest, file-sizes, row-sized}
 use Rattle.file.specs.declared.CheckAnswer.{CheckAnswer}
 use Rattle.file.specs.Promises.{CheckPromise}
-use Rattle.machine.specs.Arrays.{RowFits, Ready, tasksIn}
+use Rattle.machine.specs.Arrays.{RowFits, Ready}
 
 -- ---- a row that keeps the rules
 

@@ -8,8 +8,8 @@ use native.Mathlib.Omega.{arith}
 use borrow.Author.Tests.{leb-false}
 use lib.ListN.{length}
 use lib.Dec.{eqb, leb}
-use Rattle.layout.specs.Lists.{each, all}
 use Rattle.layout.specs.File.{flowOf}
+use Rattle.layout.proofs.Lists.{all-fails}
 use Rattle.roundtrip.proofs.Kept.{both-zero}
 use Rattle.steps.specs.Operations.{effect}
 use Rattle.steps.specs.Plain.{afterTasks}
@@ -18,7 +18,7 @@ use Rattle.steps.specs.Run.{Run, counted, runFrom, run, finished}
 use Rattle.steps.specs.Answers.{Told, plainAnswer, plainCells, runAnswer, runTold, runCells}
 use Rattle.steps.specs.Demand.{Demand3}
 use Rattle.steps.proofs.Longer.{longer-accepted}
-use Rattle.steps.proofs.Theorems.{holds, history-leaves}
+use Rattle.steps.proofs.Theorems.{holds, history-leaves, never-early}
 use Rattle.run.specs.declared.PlainAnswer.{PlainAnswer}
 use Rattle.run.specs.declared.RunAnswer.{RunAnswer}
 use Rattle.run.specs.Promises.{PlainPromise, RunPromise}
@@ -34,18 +34,6 @@ unfolding runFrom
 one-more s before [] w = refl
 one-more s before (x ∷ schedule) w =
     one-more s (counted before (step s (before .machine) x .outcome) (step s (before .machine) x .machine)) schedule w
-
--- where not all pass a test, one does not
-fails : (test : ℕ → Bool) (n : ℕ) (f : ℕ → ℕ) → all test (each n f) ≡ false → (i : ℕ) × (i < n) × (test (f i) ≡ false)
-unfolding all each
-fails test zero f e = absurd (true≢false e)
-fails test (suc n) f e = go (test (f 0)) refl e (fails test n (λ i. f (suc i)))
-  where
-    go : (b : Bool) → test (f 0) ≡ b → (b && all test (each n (λ i. f (suc i)))) ≡ false
-        → (all test (each n (λ i. f (suc i))) ≡ false → (i : ℕ) × (i < n) × (test (f (suc i)) ≡ false))
-        → (i : ℕ) × (i < suc n) × (test (f i) ≡ false)
-    go false same e later = (0, omega arith, same)
-    go true same e later = (suc (later e .0), omega (arith, later e .1), later e .2)
 
 -- 1 or 0 for true or false
 abbrev told : Bool → ℕ
@@ -104,7 +92,7 @@ module _ (file cells schedule : List ℕ) (r : RunAnswer) (after : List ℕ) (pr
       → (w : ℕ) × (w < flowOf file .workers) × (run (flowIn file) cells schedule .machine .places w .passed < length (flowOf file .tasks))
   unfolding finished
   some-left e =
-      let left = fails _ (flowOf file .workers) (λ w. w) (told-false _ (sym told-finished ∙ e)) in
+      let left = all-fails _ (flowOf file .workers) (λ w. w) (told-false _ (sym told-finished ∙ e)) in
       (left .0, left .1, leb-false _ _ (left .2))
 
 -- a worker's byte more is accepted, where there is room for it
@@ -169,4 +157,5 @@ run-demand file cells schedule r after promised taken =
                 ∙ three .values (is-finished file cells schedule r after promised taken e)
                 ∙ sym (plain-leaves file cells schedule r after promised taken p p-after plain),
           );
+      never-early = never-early file cells schedule (accepted file cells schedule r after promised taken);
     }

@@ -11,12 +11,12 @@ use lib.Seq.{getD-take, getD-drop}
 use lib.Dec.{eqb, leb, ltb}
 use Rattle.layout.specs.Flow.{Access, Task}
 use Rattle.layout.specs.Row.{accessAt, taskOf}
-use Rattle.layout.specs.File.{rowStart, rowAt}
+use Rattle.layout.specs.File.{rowStart, rowAt, tasksIn}
 use Rattle.layout.proofs.Modes.{each-drop, each-drop-all}
 use Rattle.steps.specs.Machine.{Place}
 use Rattle.steps.specs.Step.{writes, waits}
 use Rattle.steps.specs.Run.{doneAfter, isDone, doneFrom}
-use Rattle.machine.specs.Arrays.{widthBefore, widthOf, madeAt, madeIn, placeOf, Stands, Ready, Standing, tasksIn}
+use Rattle.machine.specs.Arrays.{widthBefore, widthOf, madeAt, madeIn, placeOf, Stands, Ready, Standing}
 use Rattle.machine.proofs.Places.{as-many-waits, steps-length, width-next, operation-count}
 
 -- ---- at a stage and an index

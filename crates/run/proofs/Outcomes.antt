@@ -12,7 +12,7 @@ use lib.Dec.{eqb, leb, ltb}
 use Rattle.layout.specs.Flow.{Task, Flow}
 use Rattle.layout.specs.Refusal as Rules
 use Rattle.layout.specs.Refusal.{success, refusal, unless, orElse, firstAt}
-use Rattle.layout.specs.File.{fileAnswer, flowOf}
+use Rattle.layout.specs.File.{fileAnswer, flowOf, tasksIn}
 use Rattle.roundtrip.proofs.Kept.{kept, second-given, none-at, success-at}
 use Rattle.roundtrip.proofs.Answers.{file-keeps}
 use Rattle.roundtrip.proofs.Accepted.{flow-sound}
@@ -26,7 +26,6 @@ use Rattle.file.specs.declared.CheckAnswer.{CheckAnswer}
 use Rattle.file.specs.Answers.{answerOf}
 use Rattle.file.specs.Promises.{CheckPromise}
 use Rattle.file.proofs.Order.{first-given}
-use Rattle.machine.specs.Arrays.{tasksIn}
 use Rattle.run.specs.declared.RunAnswer.{RunAnswer}
 use Rattle.run.specs.Promises.{plainIs, runIs, runRefused, PlainPromise, RunPromise, Walked}
 use Rattle.run.proofs.Accepted.{same-answer, accepted, tasks-held, workers-held, cells-held}

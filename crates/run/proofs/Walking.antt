@@ -15,7 +15,7 @@ use denote.Enum.Declared.{tagOf}
 use Rattle.layout.specs.Lists.{each, all}
 use Rattle.layout.specs.Flow.{Task}
 use Rattle.layout.specs.Row.{taskOf}
-use Rattle.layout.specs.File.{rowAt}
+use Rattle.layout.specs.File.{rowAt, tasksIn}
 use Rattle.layout.proofs.Lists.{each-length}
 use Rattle.steps.specs.Machine.{Machine, place, fresh}
 use Rattle.steps.specs.Step.{Setting, Stepped, step}
@@ -25,7 +25,7 @@ use Rattle.machine.specs.declared.Outcome.{Outcome}
 use Rattle.machine.specs.declared.Outcome.the-variants.{Advanced, PastLast, WriteDiffers, ReadsDiffer}
 use Rattle.machine.proofs.Outcome.{the-type}
 use Rattle.machine.specs.Outcomes.{outcomeOf}
-use Rattle.machine.specs.Arrays.{counterOf, counterAt, placeOf, Arrays, arrays, machineOf, Stands, Ready, ReadsAtMost, Sound, tasksIn, settingIn, StepDone}
+use Rattle.machine.specs.Arrays.{counterOf, counterAt, placeOf, Arrays, arrays, machineOf, Stands, Ready, ReadsAtMost, Sound, settingIn, StepDone}
 use Rattle.machine.proofs.Places.{none-made}
 use Rattle.machine.proofs.Growth.{more-reads, file-step-reads}
 use Rattle.run.specs.Promises.{Walked}

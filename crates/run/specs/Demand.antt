@@ -1,6 +1,7 @@
 -- Demand 3 of the code: what the stepped run and the plain run answer, and leave in the lent cells. `proofs/Demand.antt` proves it of every
 -- outcome that the contract of the stepped run allows, where that outcome is no refusal.
 use mathlib.Core.Path.{_≡_}
+use mathlib.Core.Bool.{true}
 use mathlib.Core.Logic.{_↔_}
 use mathlib.Core.List.{List, [], _∷_, _++_}
 use Prim.Native.Nat.{ℕ, _+_, _<_, _≤_}
@@ -9,7 +10,9 @@ use Rattle.layout.specs.File.{flowOf}
 use Rattle.steps.specs.Step.{Setting}
 use Rattle.steps.specs.Run.{run, settingOf, total}
 use Rattle.steps.specs.History.{afterHistory}
-use Rattle.steps.specs.Demand.{history, OnlyDeclared, InOrder}
+use Rattle.steps.specs.Conflict.{namesCell, declaresWritten}
+use Rattle.steps.specs.Demand.{history, numbered, OnlyDeclared, InOrder}
+use Rattle.steps.specs.Auditor.{NeverEarly}
 use Rattle.run.specs.declared.PlainAnswer.{PlainAnswer}
 use Rattle.run.specs.declared.RunAnswer.{RunAnswer}
 use Rattle.run.specs.Promises.{PlainPromise, RunPromise}
@@ -37,3 +40,8 @@ pub record RunDemand (file cells schedule : List ℕ) (r : RunAnswer) (after : L
   -- e. where it answers that it has finished, the plain run is no refusal and leaves the same cells
   pub values : r .finished ≡ 1 → (p : PlainAnswer) (p-after : List ℕ) → PlainPromise file cells p p-after
       → (p .number ≡ 0) × (after ≡ p-after)
+  -- the auditor's question: swap stands before drive in the list, swap declares a cell written, and drive names it
+  pub never-early : (swap drive cell : ℕ) → 1 ≤ swap → swap < drive → drive ≤ length (flowOf file .tasks)
+      → declaresWritten (numbered (flowIn file) swap) cell ≡ true
+      → namesCell (numbered (flowIn file) drive) cell ≡ true
+      → NeverEarly (flowIn file) cells schedule swap drive cell

@@ -6,16 +6,10 @@ use Prim.Native.Nat.{ℕ, _≤_}
 use Rattle.layout.specs.Refusal as Rules
 use Rattle.layout.specs.Flow.{Task}
 use Rattle.layout.specs.File.{flowOf}
-use Rattle.steps.specs.Operations.{effect}
-use Rattle.steps.specs.Step.{Setting}
-use Rattle.steps.specs.Run.{run, doneTasks, finished, total}
+use Rattle.steps.specs.Run.{settingFor, run, doneTasks, finished, total}
 use Rattle.steps.specs.Answers.{Told, plainAnswer, plainCells, runTold, runCells}
 use Rattle.run.specs.declared.PlainAnswer.{PlainAnswer}
 use Rattle.run.specs.declared.RunAnswer.{RunAnswer}
-
--- tasks under their numbers from 1, and 01's operations
-abbrev pub settingFor : List Task → Setting
-settingFor tasks = record { tasks = tasks; number = λ t. t; does = effect }
 
 abbrev pub plainIs : Rules.Answer → PlainAnswer
 plainIs met = record { number = met .number; place = met .place }

@@ -6,7 +6,8 @@ ghost use lib.ListN.{length};
 ghost use Rattle.layout.specs.Row.{taskOf};
 ghost use Rattle.steps.specs.Operations.{effect};
 ghost use Rattle.steps.specs.Plain.{afterOperations, afterTasks};
-ghost use Rattle.machine.specs.Arrays.{RowFits, Ready, tasksIn};
+ghost use Rattle.layout.specs.File.{tasksIn};
+ghost use Rattle.machine.specs.Arrays.{RowFits, Ready};
 ghost use Rattle.run.specs.Promises.{PlainPromise};
 
 // The operations of one task.

@@ -12,7 +12,8 @@ ghost use lib.ListN.{length, getD};
 ghost use lib.Dec.{ltb};
 ghost use Rattle.layout.specs.Refusal.{unless, firstAt};
 ghost use Rattle.file.specs.Answers.{answerOf};
-ghost use Rattle.machine.specs.Arrays.{Ready, tasksIn};
+ghost use Rattle.layout.specs.File.{tasksIn};
+ghost use Rattle.machine.specs.Arrays.{Ready};
 ghost use Rattle.run.specs.Promises.{RunPromise, Walked};
 
 // 14: the first byte of a schedule that is not below workers.

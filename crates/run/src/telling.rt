@@ -8,9 +8,10 @@ ghost use lib.ListN.{length, getD};
 ghost use lib.Dec.{leb};
 ghost use Rattle.layout.specs.Lists.{each, all};
 ghost use Rattle.steps.specs.Run.{doneTasks};
-ghost use Rattle.machine.specs.Arrays.{arrays, machineOf, Ready, Standing, tasksIn};
+ghost use Rattle.layout.specs.File.{tasksIn};
+ghost use Rattle.machine.specs.Arrays.{arrays, machineOf, Ready, Standing};
 
-// How many tasks are done: the owner is past the task, or at it and past its last operation.
+// How many tasks are done: the owner is past the task, or at it with only ends left.
 pub(crate) fn done_tasks(file: &[u8], tasks: u32, cells: usize, places: &Places) -> u32
     requires { ⌜ Ready (now file) tasks cells × Standing (now file) tasks (now places) × (length (now places) ≡ 8) ⌝ }
     ensures { λ r. ⌜ r ≡ doneTasks (tasksIn (now (file .entry)) tasks) (machineOf (tasksIn (now (file .entry)) tasks) (arrays [] [] [] (now (places .entry)))) ⌝ }

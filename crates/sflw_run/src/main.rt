@@ -1,13 +1,14 @@
 // The run program: a flow from standard input, all cells at 0, the workers named in turn, the total times over.
 mod say;
 
+use flow::Flow;
 use libc::STDIN_FILENO;
 use measure::Measured;
 ghost use Prim.Native.Nat.{_≤_};
 ghost use lib.ListN.{length};
 
 // Runs a flow of these sizes with the workers in turn, and writes what came of it.
-fn in_turn(file: &[u8], sizes: Measured, cells: &mut [u32], schedule: &mut [u8])
+fn run_in_turn(file: &[u8], sizes: Measured, cells: &mut [u32], schedule: &mut [u8])
     requires { ⌜ (sizes .workers ≤ 8) × (sizes .total ≤ 5800) × (sizes .cells ≤ 32) ⌝ }
     requires { ⌜ (32 ≤ length (now cells)) × (65536 ≤ length (now schedule)) ⌝ }
 {
@@ -26,7 +27,7 @@ fn in_turn(file: &[u8], sizes: Measured, cells: &mut [u32], schedule: &mut [u8])
 
 fn main() {
     // One byte more than the longest file, so that a longer input is refused for its length.
-    let mut input = [0u8; 10241];
+    let mut input = [0u8; 512 * Flow::MAX_BLOCKS + 1];
     let n = io::read_full(STDIN_FILENO, &mut input);
     let file = &input[..n];
     let sizes = measure::measure(file);
@@ -34,7 +35,7 @@ fn main() {
         say::refused(sizes.number, sizes.place);
         return;
     }
-    let mut cells = [0u32; 32];
+    let mut cells = [0u32; Flow::ROOM_FOR_CELLS];
     let mut schedule = io::large_buffer();
-    in_turn(file, sizes, &mut cells, &mut schedule);
+    run_in_turn(file, sizes, &mut cells, &mut schedule);
 }

@@ -20,7 +20,7 @@ use Rattle.roundtrip.proofs.Kept.{both-zero, rule-then, none-at}
 use Rattle.steps.specs.Operations.{becomes, effect}
 use Rattle.steps.specs.Step.{Setting}
 use Rattle.steps.specs.Run.{settingOf}
-use Rattle.steps.specs.Answers.{plainAnswer, runAnswer, startSound, lengthSound, byteNumber}
+use Rattle.steps.specs.Answers.{plainAnswer, runAnswer, startSound, scheduleSound, byteNumber}
 use Rattle.steps.specs.Conflict.{noTask, taskAt, operationOf, namesCell, Keeps, AllKeep, TellsApart, ReadsOnly}
 use Rattle.steps.proofs.Demand3.{Asked}
 use Rattle.steps.proofs.Modes.{keeps-at}
@@ -92,7 +92,7 @@ asked file cells schedule h =
     let whole = both-zero (fileAnswer file) _ (start .0) in
     let sound : Sound (flowOf file) = accepted-sound file (flowOf file) (accepted-flow file (whole .0)) in
     let size : length cells ≡ flowOf file .cells = eqb-true _ _ (unless-kept (startSound (flowOf file) cells) 12 (lit< tt) (whole .1)) in
-    let bytes = rule-then (lengthSound schedule) 13 _ (lit< tt) (start .1) .1 in
+    let bytes = rule-then (scheduleSound schedule) 13 _ (lit< tt) (start .1) .1 in
     record {
       keep = subst (λ (n : ℕ). AllKeep (flowOf file .workers) n (flowOf file .tasks)) (sym size) (keeps-of (flowOf file) sound);
       modes = λ i l. sound .each-task i noTask l .modes-kept;

@@ -25,7 +25,7 @@ use Rattle.steps.proofs.Invariant.{Kept, kept-fresh, kept-step}
 use Rattle.steps.proofs.Leaves.{leaves-on, leaves}
 use Rattle.steps.proofs.OwnMade.{made-past}
 use Rattle.steps.proofs.Sides.{own-length}
-use Rattle.steps.proofs.Told.{Told, told-fresh, told-step}
+use Rattle.steps.proofs.History.{Told, told-fresh, told-step}
 use Rattle.steps.proofs.Total.{total-bound, finished-exactly}
 use Rattle.steps.proofs.Values.{all-complete}
 

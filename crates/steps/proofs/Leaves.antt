@@ -11,7 +11,7 @@ use Rattle.steps.specs.History.{Made, made, nextOperation, madeBy, after
 use Rattle.steps.specs.Conflict.{taskAt, operationOf}
 use Rattle.steps.proofs.Places.{facing, Stands, Trying, afterOwn, StepView, past, other, held, view, Waits, on-write, on-reads}
 use Rattle.steps.proofs.Sides.{operation-place}
-use Rattle.steps.proofs.Told.{adds-own, adds-none-past, adds-none-other}
+use Rattle.steps.proofs.History.{adds-own, adds-none-past, adds-none-other}
 
 pub leaves-on : (s : Setting) (before after : List Made) (cells : List ℕ)
     → afterHistory s (before ++ after) cells ≡ afterHistory s after (afterHistory s before cells)

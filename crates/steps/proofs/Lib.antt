@@ -7,6 +7,7 @@ pub mod Cells
 pub mod Complete
 pub mod Demand3
 pub mod Errors
+pub mod History
 pub mod Invariant
 pub mod Kind
 pub mod Leaves
@@ -30,6 +31,5 @@ pub mod Seen
 pub mod Sides
 pub mod Sums
 pub mod Theorems
-pub mod Told
 pub mod Total
 pub mod Values

@@ -12,7 +12,7 @@ use Rattle.layout.specs.Flow.{Flow}
 use Rattle.layout.specs.Refusal.{Answer, unless, firstAt}
 use Rattle.layout.specs.File.{flowOf}
 use Rattle.roundtrip.proofs.Kept.{both-zero, rule-then, second-given, rule-passed, none-at, success-at}
-use Rattle.steps.specs.Answers.{plainAnswer, runAnswer, lengthSound, byteNumber}
+use Rattle.steps.specs.Answers.{plainAnswer, runAnswer, scheduleSound, byteNumber}
 use Rattle.steps.proofs.OwnMade.{order}
 
 -- each byte of the longer schedule names a worker
@@ -34,10 +34,10 @@ pub longer-accepted : (file cells schedule : List ℕ) (w : ℕ) → runAnswer f
 unfolding runAnswer
 longer-accepted file cells schedule w taken room below =
     let start = both-zero (plainAnswer file cells) _ taken in
-    let named = rule-then (lengthSound schedule) 13 _ (lit< tt) (start .1) .1 in
+    let named = rule-then (scheduleSound schedule) 13 _ (lit< tt) (start .1) .1 in
     let fits : length (schedule ++ w ∷ []) ≤ 65536 = omega (arith, length-append schedule (w ∷ [])) in
     ap (λ (a : Answer). a .number)
     (second-given (plainAnswer file cells) _ (start .0)
-    ∙ rule-passed (lengthSound (schedule ++ w ∷ [])) 13 _ (le-leb _ _ fits)
+    ∙ rule-passed (scheduleSound (schedule ++ w ∷ [])) 13 _ (le-leb _ _ fits)
     ∙ success-at (byteNumber (flowOf file) (schedule ++ w ∷ [])) 0 _
     (still-named (flowOf file) schedule w below (none-at (byteNumber (flowOf file) schedule) 0 (length schedule) named)))

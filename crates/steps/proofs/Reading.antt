@@ -23,7 +23,7 @@ use Rattle.steps.proofs.OwnMade.{own-there}
 use Rattle.steps.proofs.Places.{facing, Trying, Waits, on-write, on-reads, StepView, past, other, held, view}
 use Rattle.steps.proofs.Scan.{plainAt}
 use Rattle.steps.proofs.Sides.{waitSteps, operation-place}
-use Rattle.steps.proofs.Told.{adds-own, adds-none-past, adds-none-other}
+use Rattle.steps.proofs.History.{adds-own, adds-none-past, adds-none-other}
 use Rattle.steps.proofs.Values.{here}
 
 -- no entry is none

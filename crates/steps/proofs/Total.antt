@@ -12,7 +12,7 @@ use lib.ListN.{length}
 use lib.Dec.{leb}
 use borrow.Author.Tests.{eq-eqb, ne-eqb, leb-true, le-leb}
 use Rattle.layout.specs.Lists.{each, all}
-use Rattle.layout.proofs.Lists.{all-keeps}
+use Rattle.layout.proofs.Lists.{all-pass, all-keeps}
 use Rattle.layout.specs.Flow.{Task}
 use Rattle.steps.specs.Machine.{Machine, Place, put}
 use Rattle.steps.specs.Step.{Setting, ownSteps, Outcome, advanced, pastLast, writeDiffers, readsDiffer, step}
@@ -156,12 +156,6 @@ whole-total workers (task ∷ tasks) owned =
     )
 
 -- ---- the theorems
-
--- a test that each member passes, all do
-all-pass : (test : ℕ → Bool) (n : ℕ) (f : ℕ → ℕ) → ((i : ℕ) → i < n → test (f i) ≡ true) → all test (each n f) ≡ true
-unfolding each all
-all-pass test zero f h = refl
-all-pass test (suc n) f h = rw (h 0 (omega arith)) (all-pass test n (λ i. f (suc i)) (λ i l. h (suc i) (omega arith)))
 
 module _ (s : Setting) (workers : ℕ) (owned : (i : ℕ) → i < length (s .tasks) → taskAt (s .tasks) i .owner < workers)
     (r : Run) (so-far : Counts s workers r) where

@@ -16,8 +16,8 @@ abbrev pub startSound : Flow → List ℕ → Bool
 startSound flow cells = eqb (length cells) (flow .cells)
 
 -- 13: "schedule over 65,536 bytes"
-abbrev pub lengthSound : List ℕ → Bool
-lengthSound schedule = leb (length schedule) 65536
+abbrev pub scheduleSound : List ℕ → Bool
+scheduleSound schedule = leb (length schedule) 65536
 
 -- 14: "a schedule byte not below workers", place "its index"
 abbrev pub byteNumber : Flow → List ℕ → ℕ → ℕ
@@ -37,13 +37,13 @@ plainCells file cells = cond (eqb (plainAnswer file cells .number) 0) (afterTask
 unfoldable pub runAnswer : List ℕ → List ℕ → List ℕ → Answer
 runAnswer file cells schedule =
     orElse (plainAnswer file cells)
-    (orElse (refusal (unless (lengthSound schedule) 13) 0) (firstAt (byteNumber (flowOf file) schedule) 0 (length schedule)))
+    (orElse (refusal (unless (scheduleSound schedule) 13) 0) (firstAt (byteNumber (flowOf file) schedule) 0 (length schedule)))
 
 -- the run itself
 abbrev pub ran : List ℕ → List ℕ → List ℕ → Run
 ran file cells schedule = run (settingOf (flowOf file)) cells schedule
 
--- "A refusal .. reports zero counts", and "a refused run isn't finished"
+-- what the stepped run tells: the number and the place, and the four counts
 pub record Told : Type 0 where
   pub number : ℕ
   pub place : ℕ
@@ -52,6 +52,7 @@ pub record Told : Type 0 where
   pub done : ℕ
   pub finished : ℕ
 
+-- "A refusal .. reports zero counts", and "a refused run isn't finished"
 abbrev pub toldOf : Answer → Flow → Run → Told
 toldOf met flow after =
     record {
@@ -63,6 +64,7 @@ toldOf met flow after =
       finished = told met (cond (finished (flow .workers) (flow .tasks) (after .machine)) 1 0);
     }
 
+-- what it tells of a file, starting cells and a schedule
 unfoldable pub runTold : List ℕ → List ℕ → List ℕ → Told
 runTold file cells schedule = toldOf (runAnswer file cells schedule) (flowOf file) (ran file cells schedule)
 

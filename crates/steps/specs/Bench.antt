@@ -3,9 +3,12 @@
 use mathlib.Core.List.{List, [], _∷_, _++_}
 use Prim.Native.Nat.{ℕ}
 use lib.ListN.{replicate}
+use Rattle.layout.specs.Bytes.{padded}
 use Rattle.layout.specs.Fletcher.{Sums, fletcher}
 use Rattle.layout.specs.Flow.{Operation}
+use Rattle.layout.specs.File.{flowOf}
 use Rattle.steps.specs.Operations.{effect, operated}
+use Rattle.steps.specs.Run.{total}
 use Rattle.steps.specs.Answers.{Told, plainAnswer, plainCells, runTold, runCells}
 
 -- ---- the file: 2 workers, 3 cells, 3 tasks
@@ -13,24 +16,17 @@ use Rattle.steps.specs.Answers.{Told, plainAnswer, plainCells, runTold, 
 unfoldable pub head : List ℕ
 head = 83 ∷ 70 ∷ 76 ∷ 87 ∷ 1 ∷ 3 ∷ 0 ∷ 0 ∷ 1 ∷ 0 ∷ 3 ∷ 0 ∷ 2 ∷ 3 ∷ 0 ∷ 0 ∷ []
 
--- so many bytes, and zeros up to the size of a row
-unfoldable pub row : List ℕ → ℕ → List ℕ
-row bytes zeros = bytes ++ replicate zeros 0
-
 -- task 1, owner 0, write 0: cell 0 becomes 4660
 unfoldable pub row1 : List ℕ
-unfolding row
-row1 = row (0 ∷ 1 ∷ 1 ∷ 0 ∷ 0 ∷ 2 ∷ 0 ∷ 0 ∷ 0 ∷ 0 ∷ 0 ∷ 0 ∷ 1 ∷ 0 ∷ 0 ∷ 0 ∷ 52 ∷ 18 ∷ []) 30
+row1 = padded 48 (0 ∷ 1 ∷ 1 ∷ 0 ∷ 0 ∷ 2 ∷ 0 ∷ 0 ∷ 0 ∷ 0 ∷ 0 ∷ 0 ∷ 1 ∷ 0 ∷ 0 ∷ 0 ∷ 52 ∷ 18 ∷ [])
 
 -- task 2, owner 1, read 0, write 1: cell 1 becomes cell 0 swapped
 unfoldable pub row2 : List ℕ
-unfolding row
-row2 = row (1 ∷ 2 ∷ 1 ∷ 0 ∷ 0 ∷ 1 ∷ 1 ∷ 2 ∷ 0 ∷ 0 ∷ 0 ∷ 0 ∷ 5 ∷ 1 ∷ 0 ∷ 0 ∷ 0 ∷ 0 ∷ []) 30
+row2 = padded 48 (1 ∷ 2 ∷ 1 ∷ 0 ∷ 0 ∷ 1 ∷ 1 ∷ 2 ∷ 0 ∷ 0 ∷ 0 ∷ 0 ∷ 5 ∷ 1 ∷ 0 ∷ 0 ∷ 0 ∷ 0 ∷ [])
 
 -- task 3, owner 0, read 1, read-and-write 2: cell 2 becomes cell 2 + cell 1
 unfoldable pub row3 : List ℕ
-unfolding row
-row3 = row (0 ∷ 2 ∷ 1 ∷ 0 ∷ 1 ∷ 1 ∷ 2 ∷ 3 ∷ 0 ∷ 0 ∷ 0 ∷ 0 ∷ 3 ∷ 2 ∷ 1 ∷ 0 ∷ 0 ∷ 0 ∷ []) 30
+row3 = padded 48 (0 ∷ 2 ∷ 1 ∷ 0 ∷ 1 ∷ 1 ∷ 2 ∷ 3 ∷ 0 ∷ 0 ∷ 0 ∷ 0 ∷ 3 ∷ 2 ∷ 1 ∷ 0 ∷ 0 ∷ 0 ∷ [])
 
 unfoldable pub flowA : List ℕ
 unfolding head row1 row2 row3
@@ -75,8 +71,10 @@ whole = replicate 6 0 ++ (replicate 9 1 ++ replicate 7 0)
 
 unfoldable pub bench : List Case
 bench =
+    -- "Total 22"
+    gives (total (flowOf flowA) ∷ []) (22 ∷ [])
     -- P1
-    gives plainOf (0 ∷ 0 ∷ 4660 ∷ 13330 ∷ 13335 ∷ [])
+    ∷ gives plainOf (0 ∷ 0 ∷ 4660 ∷ 13330 ∷ 13335 ∷ [])
     -- P2
     ∷ gives (ranOn []) (0 ∷ 0 ∷ 0 ∷ 0 ∷ 0 ∷ 0 ∷ start)
     -- P3

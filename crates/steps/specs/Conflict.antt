@@ -1,4 +1,4 @@
--- The words of demand 3 (the mission; 01, "The steps"): which tasks name a cell, which are in conflict on it, and what the theorems
+-- The words of demand 3: which tasks name a cell, which are in conflict on it, and what the theorems
 -- ask of a list of tasks, of the numbers of its tasks and of what operations do. An accepted flow has all of it.
 use mathlib.Core.Path.{_≡_}
 use mathlib.Core.Bool.{Bool, true, false, _||_}

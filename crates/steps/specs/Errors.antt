@@ -1,6 +1,6 @@
--- Errors that look right (01): for each of the first three and for the fifth, a flow and an order of work in which it shows. Each case says of a run what
--- demand 3 says of it: it has finished, as many steps advanced as the total, and the cells are the plain run's. (The fourth shows in case P10.)
--- `proofs/Errors.antt` proves the table under a single statement.
+-- Errors that look right (01): for each of the first three, a flow and an order of work in which it shows. Each case says of a run what demand 3
+-- says of it: it has finished, as many steps advanced as the total, and the cells are the plain run's. The fifth error shows in every case, since
+-- fewer steps advance than the total; the fourth in case P10. `proofs/Errors.antt` proves the table under a single statement.
 use mathlib.Core.Bool.{cond}
 use mathlib.Core.List.{List, [], _∷_, _++_}
 use Prim.Native.Nat.{ℕ, zero, suc}
@@ -11,7 +11,7 @@ use Rattle.steps.specs.Plain.{afterTasks}
 use Rattle.steps.specs.Run.{Run, run, settingOf, finished, total}
 use Rattle.steps.specs.Bench.{Case, gives}
 
--- ---- three tasks of two workers, over two cells
+-- ---- the tasks, each of a worker, over two cells
 
 abbrev pub access : ℕ → ℕ → Access
 access cell mode = record { cell = cell; mode = mode }
@@ -46,8 +46,8 @@ inTurn (suc n) = 0 ∷ 1 ∷ inTurn n
 
 -- ---- the table
 
-abbrev pub flowOf : List Task → Flow
-flowOf tasks = record { workers = 2; cells = 2; tasks = tasks }
+abbrev pub smallFlow : List Task → Flow
+smallFlow tasks = record { workers = 2; cells = 2; tasks = tasks }
 
 abbrev pub zeros : List ℕ
 zeros = 0 ∷ 0 ∷ []
@@ -55,9 +55,9 @@ zeros = 0 ∷ 0 ∷ []
 -- whether the run has finished, the steps that advanced, and the cells; and what demand 3 says of them
 unfoldable pub endsWell : List Task → List ℕ → Case
 endsWell tasks schedule =
-    let after : Run = run (settingOf (flowOf tasks)) zeros schedule in
+    let after : Run = run (settingOf (smallFlow tasks)) zeros schedule in
     gives (cond (finished 2 tasks (after .machine)) 1 0 ∷ after .advanced ∷ after .machine .cells)
-    (1 ∷ total (flowOf tasks) ∷ afterTasks effect tasks zeros)
+    (1 ∷ total (smallFlow tasks) ∷ afterTasks effect tasks zeros)
 
 unfoldable pub errors : List Case
 errors =

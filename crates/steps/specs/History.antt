@@ -29,6 +29,7 @@ nextOperation task at (endRead c ∷ later) = []
 nextOperation task at (zeroReads c ∷ later) = []
 nextOperation task at (postWrite c ∷ later) = []
 
+-- the same among the tasks from the worker's place on: an operation of its own task, none of another's
 unfoldable pub madeFrom : Machine → ℕ → List Task → List Made
 madeFrom m w [] = []
 madeFrom m w (task ∷ later) =
@@ -38,6 +39,7 @@ madeFrom m w (task ∷ later) =
 abbrev pub madeBy : Setting → Machine → ℕ → List Made
 madeBy s m w = madeFrom m w (drop (m .places w .passed) (s .tasks))
 
+-- the operations that a schedule makes, from a machine on
 unfoldable pub historyFrom : Setting → Machine → List ℕ → List Made
 historyFrom s m [] = []
 historyFrom s m (w ∷ schedule) = madeBy s m w ++ historyFrom s (step s m w .machine) schedule

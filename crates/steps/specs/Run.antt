@@ -35,9 +35,12 @@ runFrom s before (w ∷ schedule) =
 abbrev pub run : Setting → List ℕ → List ℕ → Run
 run s cells schedule = runFrom s (record { machine = fresh (s .number 0) cells; advanced = 0; held = 0 }) schedule
 
--- tasks are numbered "from 1 in list order"
+-- tasks are numbered "from 1 in list order", and operations do what 01 says
+abbrev pub settingFor : List Task → Setting
+settingFor tasks = record { tasks = tasks; number = λ t. t; does = effect }
+
 abbrev pub settingOf : Flow → Setting
-settingOf flow = record { tasks = flow .tasks; number = λ t. t; does = effect }
+settingOf flow = settingFor (flow .tasks)
 
 -- ---- what is told of a run
 

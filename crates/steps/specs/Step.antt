@@ -18,6 +18,8 @@ pub record Setting : Type 0 where
 
 -- ---- a task's own steps
 
+-- a wait for the last write or for the reads of a cell, an operation, the end of a read, and the two ends of a write: its shared reads set to 0,
+-- and its last write posted
 pub data Try : Type 0 where
   waitWrite : ℕ → Try
   waitReads : ℕ → Try

@@ -6,9 +6,8 @@ use native.Mathlib.Omega.{arith}
 use borrow.Author.Needs.{needs}
 use lib.ListN.{length, drop, getD}
 use Rattle.layout.specs.Row.{taskOf}
-use Rattle.layout.specs.File.{rowAt}
+use Rattle.layout.specs.File.{rowAt, tasksIn}
 use Rattle.steps.specs.Run.{accessSteps, totalOf}
-use Rattle.machine.specs.Arrays.{tasksIn}
 use Rattle.machine.proofs.Rows.{row-there, row-fits}
 use Rattle.measure.proofs.Sums.{row-counts, task-next, task-end}
 use Rattle.measure.proofs.tasks_total.Statement.{statement}

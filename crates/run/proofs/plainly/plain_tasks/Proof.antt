@@ -6,10 +6,9 @@ use Prim.Native.Nat.{ℕ, _+_, _≤_, _-_}
 use borrow.Author.Needs.{needs}
 use lib.ListN.{length, drop}
 use Rattle.layout.specs.Row.{taskOf}
-use Rattle.layout.specs.File.{rowAt}
+use Rattle.layout.specs.File.{rowAt, tasksIn}
 use Rattle.steps.specs.Operations.{effect}
 use Rattle.steps.specs.Plain.{afterOperations, afterTasks}
-use Rattle.machine.specs.Arrays.{tasksIn}
 use Rattle.machine.proofs.Rows.{row-there}
 use Rattle.run.proofs.OneByOne.{row-fits, task-next, tasks-end}
 use Rattle.run.proofs.plainly.plain_tasks.Statement.{statement}

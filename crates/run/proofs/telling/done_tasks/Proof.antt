@@ -9,7 +9,8 @@ use borrow.Author.Needs.{needs}
 use lib.ListN.{drop, getD}
 use Rattle.steps.specs.Machine.{Place}
 use Rattle.steps.specs.Run.{doneFrom}
-use Rattle.machine.specs.Arrays.{placeOf, tasksIn}
+use Rattle.layout.specs.File.{tasksIn}
+use Rattle.machine.specs.Arrays.{placeOf}
 use Rattle.run.proofs.Done.{owner-read, task-counted, all-counted}
 use Rattle.run.proofs.telling.done_tasks.Statement.{statement}
 use Rattle.run.proofs.telling.done_tasks.Tie as tie

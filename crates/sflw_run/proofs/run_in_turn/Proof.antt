@@ -1,4 +1,4 @@
--- `in_turn` is safe and ends: workers times total is at most 46,400, which the schedule holds, and the cells are at most 32.
+-- `run_in_turn` is safe and ends: workers times total is at most 46,400, which the schedule holds, and the cells are at most 32.
 use mathlib.Core.Path.{_≡_, sym}
 use mathlib.Core.List.{List, _++_}
 use Prim.Native.Nat.{ℕ, _*_, _≤_}
@@ -7,8 +7,8 @@ use native.Mathlib.Omega.{arith}
 use lib.ListN.{length, take, drop}
 use lib.Seq.{length-take-le, length-front}
 use borrow.Author.Needs.{needs}
-use Rattle.sflw_run.proofs.in_turn.Statement.{statement}
-use Rattle.sflw_run.proofs.in_turn.Tie as tie
+use Rattle.sflw_run.proofs.run_in_turn.Statement.{statement}
+use Rattle.sflw_run.proofs.run_in_turn.Tie as tie
 
 steps-fit : (workers total : ℕ) → workers ≤ 8 → total ≤ 5800 → workers * total ≤ 46400
 steps-fit workers total h l = omega (arith, mul-le-mul-right total h)
@@ -40,8 +40,8 @@ slice-aggregate-cells : tie.Need-slice-aggregate-cells
 slice-aggregate-cells c =
     sym (length-take-le _ (c .before .before .before .before .before .before .before .run .last .1 .0 ++ drop (c .before .before .before .before .before .before .before .before .before .before .before .before .before .before .before .offset2 .result) (c .before .before .before .before .before .before .before .before .before .before .before .before .before .before .before .before .before .before .before .before .before .args .cells .now)) (part-fits (c .before .before .before .before .before .before .before .before .before .before .before .before .before .before .before .before .before .before .before .before .before .args .cells .now) (c .before .before .before .before .before .before .before .run .last .1 .0) _ (omega (arith, c .before .before .before .before .before .before .before .before .before .before .before .before .before .before .before .offset2 .ensures, c .before .before .before .before .before .before .before .before .before .before .before .before .before .before .before .before .before .before .before .before .before .pre)) (c .before .before .before .before .before .before .before .run .kept .1 .0)))
 
-pub in-turn-spec : {M : Type 1} → statement M
-in-turn-spec =
+pub run-in-turn-spec : {M : Type 1} → statement M
+run-in-turn-spec =
     tie.close
     (tie.spec
     mul-offset (λ c κs. search needs) (λ c κs. search needs) (λ c. search needs) (λ c κs. search needs)
