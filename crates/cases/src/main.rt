@@ -7,12 +7,14 @@ mod text;
 mod vectors;
 mod words;
 
+use libc::STDIN_FILENO;
+
 fn main() {
     vectors::run();
     let rows = flows::rows();
     let mut space = [0u8; 16384];
     let lent: &mut [u8] = &mut space;
-    let size = io::read_full(0, lent);
+    let size = io::read_full(STDIN_FILENO, lent);
     if size == lent.len() {
         say::text(b"more cases than there is room for\n");
     }

@@ -3,15 +3,16 @@ use file::CheckAnswer;
 use file::ReadAnswer;
 use file::WriteAnswer;
 use fletcher::Sums;
+use libc::STDOUT_FILENO;
 
 pub(crate) fn text(words: &[u8]) {
-    io::write_all(1, words);
+    io::write_all(STDOUT_FILENO, words);
 }
 
 // A number after a space.
 pub(crate) fn number(n: u32) {
     text(b" ");
-    io::print_decimal(1, n as u64);
+    io::print_decimal(STDOUT_FILENO, n as u64);
 }
 
 // A number after its name.

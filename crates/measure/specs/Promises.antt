@@ -20,7 +20,7 @@ measuredOf file =
 
 pub record MeasurePromise (file : List ℕ) (r : Measured) : Type 0 where
   pub answer : r ≡ measuredOf file
-  -- "Its largest value is 5,800"
+  -- "Its largest value is 5,800": no flow's is above it
   pub total-fits : r .total ≤ 5800
   pub workers-fit : r .workers ≤ 8
   pub cells-fit : r .cells ≤ 32

@@ -1,14 +1,15 @@
 // The lines: a file's name, the number of the call, and what was answered.
 use file::Answer;
+use libc::STDOUT_FILENO;
 
 pub(crate) fn text(words: &[u8]) {
-    io::write_all(1, words);
+    io::write_all(STDOUT_FILENO, words);
 }
 
 // A number after a space.
 pub(crate) fn spaced(n: u32) {
     text(b" ");
-    io::print_decimal(1, n as u64);
+    io::print_decimal(STDOUT_FILENO, n as u64);
 }
 
 // The call's number, which counts from 1.
@@ -16,7 +17,7 @@ pub(crate) fn called(name: &[u8], before: u32) {
     text(name);
     text(b", call");
     text(b" ");
-    io::print_decimal(1, before as u64 + 1);
+    io::print_decimal(STDOUT_FILENO, before as u64 + 1);
     text(b":");
 }
 

@@ -1,16 +1,18 @@
 // The lines: a case's name, the number and the place answered, the counts of a stepped run, and the cells.
+use libc::STDOUT_FILENO;
+
 fn decimal(n: u32) {
-    io::print_decimal(1, n as u64);
+    io::print_decimal(STDOUT_FILENO, n as u64);
 }
 
 // A number after its name.
 fn named(name: &[u8], n: u32) {
-    io::write_all(1, name);
+    io::write_all(STDOUT_FILENO, name);
     decimal(n);
 }
 
 pub(crate) fn answered(name: &[u8], number: u32, place: u32) {
-    io::write_all(1, name);
+    io::write_all(STDOUT_FILENO, name);
     named(b": ", number);
     named(b" place ", place);
 }
@@ -24,11 +26,11 @@ pub(crate) fn counts(advanced: u32, held: u32, done: u32, finished: u32) {
 
 // The cells, and the end of the line.
 pub(crate) fn cells(values: &[u32]) {
-    io::write_all(1, b" cells");
+    io::write_all(STDOUT_FILENO, b" cells");
     let mut i = 0;
     while i < values.len() {
         named(b" ", values[i]);
         i += 1;
     }
-    io::write_all(1, b"\n");
+    io::write_all(STDOUT_FILENO, b"\n");
 }
