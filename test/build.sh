@@ -42,7 +42,7 @@ flags+=(-I "$top/include" -I "$top/reference" -I "$top/test")
 
 mkdir -p "$to"
 objects=()
-for source in reference/ref test/flows test/cases test/named_cases test/lent; do
+for source in reference/ref test/flows test/cases test/named_cases test/lent test/words; do
     object="$to/$(basename "$source").o"
     "$cc" "${flags[@]}" -c "$top/$source.c" -o "$object"
     objects+=("$object")

@@ -11,10 +11,10 @@
  * case P10 shows the wrong swap.
  */
 #include "flows.h"
+#include "words.h"
 
 #include <inttypes.h>
 #include <stdio.h>
-#include <stdlib.h>
 #include <string.h>
 
 enum { TASKS = 5, WORKERS = 3, CELLS = 3, OPERATIONS = 2, STEPS = 4 * CELLS + OPERATIONS };
@@ -302,9 +302,11 @@ static uint32_t swap_under(enum error which)
 
 int main(int count, char **arguments)
 {
-    uint64_t flows = count > 1 ? strtoull(arguments[1], NULL, 0) : 30000;
-    uint64_t seed = count > 2 ? strtoull(arguments[2], NULL, 0) : 20220127;
+    struct words words = words_of("errors", count, arguments);
+    uint64_t flows = next_number(&words, "FLOWS", 1, UINT32_MAX, 30000);
+    uint64_t seed = next_number(&words, "SEED", 0, UINT64_MAX, 20220127);
     static uint64_t counts[ERRORS][STATEMENTS];
+    no_more_words(&words);
 
     for (uint64_t i = 0; i < flows; i++) {
         struct random random = random_of_case(seed, i);

@@ -34,6 +34,7 @@
 #include "calls.h"
 #include "lent.h"
 #include "named_cases.h"
+#include "words.h"
 
 #include <inttypes.h>
 #include <stdio.h>
@@ -219,10 +220,12 @@ static void report(uint64_t cases)
 
 int main(int count, char **arguments)
 {
-    uint64_t cases = count > 1 ? strtoull(arguments[1], NULL, 0) : 2900;
-    uint64_t seed = count > 2 ? strtoull(arguments[2], NULL, 0) : 20220127;
-
-    uint64_t all = named_case_count + LARGEST + TOO_LONG + cases;
+    uint32_t others = named_case_count + LARGEST + TOO_LONG;
+    struct words words = words_of("vectors", count, arguments);
+    uint64_t cases = next_number(&words, "CASES", 0, UINT32_MAX - others, 2900);
+    uint64_t seed = next_number(&words, "SEED", 0, UINT64_MAX, 20220127);
+    uint64_t all = others + cases;
+    no_more_words(&words);
 
     open_memory(&memory);
     put_number((uint32_t)all);
