@@ -54,8 +54,10 @@ static uint32_t some_tasks(struct random *random, enum sizes sizes)
     }
     if (kind < 50)
         return between(random, 1, 8);
-    if (kind < 70) /* about a whole number of blocks */
-        return 10 * between(random, 1, chance(random, 800) ? 3 : 19) + between(random, 0, 2) - 1;
+    if (kind < 70) { /* about a whole number of blocks */
+        uint32_t blocks = between(random, 1, chance(random, 800) ? 3 : 19);
+        return 10 * blocks + between(random, 0, 2) - 1;
+    }
     if (kind < 94)
         return between(random, 1, 60);
     return chance(random, 500) ? between(random, 1, 200) : between(random, 189, 200);
@@ -272,8 +274,10 @@ static void damage_byte(struct random *random, uint8_t *at)
 static size_t some_byte(struct random *random, const struct sample *flow, size_t length)
 {
     uint32_t kind = below(random, 10);
-    if (kind < 3)
-        return BLOCK_BYTES * below(random, blocks_of(flow->tasks)) + below(random, 16);
+    if (kind < 3) {
+        uint32_t block = below(random, blocks_of(flow->tasks));
+        return BLOCK_BYTES * block + below(random, 16);
+    }
     if (kind < 8) {
         uint32_t task = below(random, flow->tasks);
         uint32_t byte = chance(random, 500) ? below(random, 18) : below(random, ROW_BYTES);
@@ -368,6 +372,7 @@ static void some_file(struct random *random, struct test_case *made,
 {
     /* a run is mostly of a file that is accepted */
     uint32_t valid = made->call == CALL_RUN ? 800 : made->call == CALL_PLAIN ? 600 : 300;
+    bool put_right;
 
     made->kind = "valid file";
     made->input_len = make_file(flow, made->input);
@@ -400,7 +405,8 @@ static void some_file(struct random *random, struct test_case *made,
         break;
     case 9:
         made->kind = "several bytes damaged";
-        damage_file(random, made, flow, between(random, 2, 8), chance(random, 800));
+        put_right = chance(random, 800);
+        damage_file(random, made, flow, between(random, 2, 8), put_right);
         break;
     case 10:
         made->kind = "truncated";
@@ -433,6 +439,13 @@ static void some_read(struct random *random, struct test_case *made,
 
 /* ---- the writer -------------------------------------------------------- */
 
+/* Right in its part below `unit` alone: that is from 1 to `most`. */
+static uint32_t right_below(struct random *random, uint32_t unit, uint32_t times, uint32_t most)
+{
+    uint32_t high = unit * between(random, 1, times);
+    return high + between(random, 1, most);
+}
+
 /* A number that is not from 1 to `most`; some look right in their low byte or
    their low half. */
 static uint32_t outside(struct random *random, uint32_t most)
@@ -443,9 +456,9 @@ static uint32_t outside(struct random *random, uint32_t most)
     case 1:
         return most + 1;
     case 2:
-        return 256 * between(random, 1, 1000) + between(random, 1, most);
+        return right_below(random, 256, 1000, most);
     case 3:
-        return UINT32_C(0x10000) * between(random, 1, 60000) + between(random, 1, most);
+        return right_below(random, 0x10000, 60000, most);
     case 4:
         return chance(random, 500) ? UINT32_MAX : UINT32_C(0x80000000) + between(random, 0, most);
     default:
