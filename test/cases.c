@@ -367,64 +367,64 @@ static void make_noise(struct random *random, struct test_case *made)
 
 /* ---- files ------------------------------------------------------------- */
 
+static void choose_faults(struct random *random, struct test_case *made,
+                          const struct sample *flow, uint32_t kind)
+{
+    static const char *const kinds[] = {"one fault", "two faults", "three faults"};
+    uint32_t count = kind < 4 ? 1 : kind < 6 ? 2 : 3;
+
+    made->kind = kinds[count - 1];
+    spoil_file(random, made, flow, count);
+}
+
+static void damage_blindly(struct random *random, struct test_case *made,
+                           const struct sample *flow, uint32_t kind)
+{
+    static const char *const kinds[] = {
+        "one byte damaged", "one byte damaged, check put right", "several bytes damaged",
+        "truncated",        "extended",                          "blocks exchanged",
+        "zero or noise"};
+    bool put_right = kind == 1 || (kind == 2 && chance(random, 800));
+
+    made->kind = kinds[kind];
+    switch (kind) {
+    case 0:
+    case 1:
+        damage_file(random, made, flow, 1, put_right);
+        break;
+    case 2:
+        damage_file(random, made, flow, between(random, 2, 8), put_right);
+        break;
+    case 3:
+        truncate_file(random, made);
+        break;
+    case 4:
+        extend_file(random, made);
+        break;
+    case 5:
+        exchange_blocks(random, made);
+        break;
+    default:
+        make_noise(random, made);
+        break;
+    }
+}
+
 static void some_file(struct random *random, struct test_case *made,
                       const struct sample *flow)
 {
     /* a run is mostly of a file that is accepted */
     uint32_t valid = made->call == CALL_RUN ? 800 : made->call == CALL_PLAIN ? 600 : 300;
-    bool put_right;
 
     made->kind = "valid file";
     made->input_len = make_file(flow, made->input);
     if (chance(random, valid))
         return;
-    switch (below(random, 14)) {
-    case 0:
-    case 1:
-    case 2:
-    case 3:
-        made->kind = "one fault";
-        spoil_file(random, made, flow, 1);
-        break;
-    case 4:
-    case 5:
-        made->kind = "two faults";
-        spoil_file(random, made, flow, 2);
-        break;
-    case 6:
-        made->kind = "three faults";
-        spoil_file(random, made, flow, 3);
-        break;
-    case 7:
-        made->kind = "one byte damaged";
-        damage_file(random, made, flow, 1, false);
-        break;
-    case 8:
-        made->kind = "one byte damaged, check put right";
-        damage_file(random, made, flow, 1, true);
-        break;
-    case 9:
-        made->kind = "several bytes damaged";
-        put_right = chance(random, 800);
-        damage_file(random, made, flow, between(random, 2, 8), put_right);
-        break;
-    case 10:
-        made->kind = "truncated";
-        truncate_file(random, made);
-        break;
-    case 11:
-        made->kind = "extended";
-        extend_file(random, made);
-        break;
-    case 12:
-        made->kind = "blocks exchanged";
-        exchange_blocks(random, made);
-        break;
-    default:
-        made->kind = "zero or noise";
-        make_noise(random, made);
-        break;
-    }
+    uint32_t kind = below(random, 14);
+    if (kind < 7)
+        choose_faults(random, made, flow, kind);
+    else
+        damage_blindly(random, made, flow, kind - 7);
 }
 
 static void some_read(struct random *random, struct test_case *made,
