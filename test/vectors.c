@@ -120,7 +120,6 @@ static void put_case(void)
 
     call_case(&reference, &current, IN_THE_MIDDLE, 0, &memory);
     if (misdeed(&memory, &current) != NULL || memory.returned >= NUMBERS ||
-        memory.returned != answer_at(&memory, 0) ||
         (current.known && (memory.returned != current.number ||
                            answer_at(&memory, 1) != current.place))) {
         fprintf(stderr, "vectors: the reference is wrong on: %s\n", current.kind);
