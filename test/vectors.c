@@ -155,7 +155,8 @@ static void put_plain_largest(const uint8_t *file, size_t length)
     put_case();
 }
 
-/* The same file and start under a fair schedule, long enough to finish. */
+/* The same file and start under a fair schedule of so many steps: the shorter
+   one does not finish. */
 static void put_run_largest(uint32_t steps)
 {
     current.call = CALL_RUN;
