@@ -32,7 +32,7 @@ static struct test_case current;
 
 static uint64_t seed = 20220127;
 static uint64_t case_number;
-static bool named; /* the case is one that 01 names, and not from the seed */
+static bool named; /* the case is one of named_cases, and not from the seed */
 static const char *volatile inside = "no call";
 
 /* ---- what is met ------------------------------------------------------- */
@@ -104,7 +104,7 @@ static void print_answer(const struct calls *calls, const struct memory *memory)
 static void print_which(void)
 {
     if (named)
-        printf("a case of 01: ");
+        printf("a named case: ");
     else
         printf("seed %" PRIu64 " case %" PRIu64 ": ", seed, case_number);
     printf("%s, %s: ", call_name(current.call), current.kind);
@@ -244,7 +244,7 @@ static bool case_passes(void)
     return true;
 }
 
-/* The cases that 01 names, in each of the three ways to lend. */
+/* The named cases, in each of the three ways to lend. */
 static bool named_cases_pass(void)
 {
     bool pass = true;

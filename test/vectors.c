@@ -3,10 +3,9 @@
  *
  *     vectors [CASES [SEED]] > FILE
  *
- * First the cases that the scope document names, then some with the largest
- * flow, then some with a schedule that is too long, then CASES made from the
- * seed, most of them small. The gate runs what it writes without words; that
- * is stored by
+ * First the named cases, then some with the largest flow, then some with a
+ * schedule that is too long, then CASES made from the seed, most of them
+ * small. The gate runs what it writes without words; that is stored by
  *
  *     test/build.sh && test/run.sh vectors > crates/vectors/stdin
  *
