@@ -7,6 +7,8 @@
 # it target/staticlib is taken. Where there is no libsflw.a only the programs
 # that need none are built: scope, vectors and errors.
 #
+# The compiler is cc, or the one that CC names.
+#
 # The library is x86-64 code. On an aarch64 machine all is built for x86-64
 # with Debian's cross compiler, which is installed if it is missing, and
 # test/run.sh runs it under an emulator.
@@ -18,7 +20,7 @@ flags=(-std=c11 -O2 -Wall -Wextra)
 
 case "$(uname -m)" in
 x86_64)
-    cc="${CC:-gcc}"
+    cc="${CC:-cc}"
     ;;
 aarch64)
     cc=x86_64-linux-gnu-gcc
