@@ -13,7 +13,7 @@
 # with Debian's cross compiler, which is installed if it is missing, and
 # test/run.sh runs it under an emulator.
 set -euo pipefail
-top="$(cd "$(dirname "${BASH_SOURCE[0]}")/.." && pwd)"
+top="$(dirname "$(dirname "$(readlink -f "${BASH_SOURCE[0]}")")")"
 folder="${1:-$top/target/staticlib}"
 to="$top/target/test"
 flags=(-std=c11 -O2 -Wall -Wextra)

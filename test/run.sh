@@ -6,7 +6,7 @@
 # On an aarch64 machine it runs under the emulator that the Rattle kit ships,
 # where a time that is measured says nothing.
 set -euo pipefail
-top="$(cd "$(dirname "${BASH_SOURCE[0]}")/.." && pwd)"
+top="$(dirname "$(dirname "$(readlink -f "${BASH_SOURCE[0]}")")")"
 if [ $# -eq 0 ]; then
     echo "run.sh: a name is needed: scope, differential, vectors, errors or bench" >&2
     exit 2
