@@ -13,8 +13,20 @@ if [ $# -eq 0 ]; then
 fi
 program="$top/target/test/$1"
 shift
-if [ "$(uname -m)" = aarch64 ]; then
+case "$(uname -m)" in
+x86_64)
+    exec "$program" "$@"
+    ;;
+aarch64)
+    if ! command -v rt >/dev/null; then
+        echo "run.sh: the Rattle toolchain (rt), which has the emulator, is not found" >&2
+        exit 1
+    fi
     kit="$(dirname "$(dirname "$(rt doc)")")"
     exec "$kit/on/aarch64/toolchain/bin/qemu-x86_64" "$program" "$@"
-fi
-exec "$program" "$@"
+    ;;
+*)
+    echo "run.sh: x86_64 or aarch64 is needed, not $(uname -m)" >&2
+    exit 2
+    ;;
+esac
