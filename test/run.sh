@@ -7,11 +7,18 @@
 # where a time that is measured says nothing.
 set -euo pipefail
 top="$(dirname "$(dirname "$(readlink -f "${BASH_SOURCE[0]}")")")"
-if [ $# -eq 0 ]; then
-    echo "run.sh: a name is needed: scope, differential, vectors, errors or bench" >&2
+case "${1-}" in
+scope | differential | vectors | errors | bench) ;;
+*)
+    echo "run.sh: a name is needed: scope, differential, vectors, errors or bench, not '${1-}'" >&2
+    exit 2
+    ;;
+esac
+program="$top/target/test/$1"
+if [ ! -x "$program" ]; then
+    echo "run.sh: target/test/$1 is not there; test/build.sh builds it" >&2
     exit 2
 fi
-program="$top/target/test/$1"
 shift
 case "$(uname -m)" in
 x86_64)
