@@ -8,8 +8,9 @@
  * none is named. With a refusal every count in the answer is 0, and all other
  * lent memory is as it was.
  *
- * Lengths are in bytes, but for cells_len, which counts cells of 32 bits.
- * Nothing that is lent for writing may overlap anything else that is lent.
+ * Lengths are in bytes, but for cells_len, which counts cells of 32 bits. A
+ * pointer must not be null, even with length 0. Nothing that is lent for
+ * writing may overlap anything else that is lent.
  */
 #ifndef SFLW_H
 #define SFLW_H

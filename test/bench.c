@@ -12,6 +12,7 @@
 
 #include "calls.h"
 #include "cases.h"
+#include "words.h"
 
 #include <inttypes.h>
 #include <pthread.h>
@@ -473,10 +474,9 @@ static void stack_table(void)
 
 int main(int count, char **arguments)
 {
-    if (count > 1)
-        samples = (uint32_t)strtoul(arguments[1], NULL, 0);
-    if (samples < 1 || samples > MOST_SAMPLES)
-        samples = 31;
+    struct words words = words_of("bench", count, arguments);
+    samples = (uint32_t)next_number(&words, "SAMPLES", 1, MOST_SAMPLES, samples);
+    no_more_words(&words);
 
     time_largest();
     time_growth("run, fair schedule: ns a step", run_fair, run_empty, fair_steps);

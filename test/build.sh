@@ -7,18 +7,20 @@
 # it target/staticlib is taken. Where there is no libsflw.a only the programs
 # that need none are built: scope, vectors and errors.
 #
+# The compiler is cc, or the one that CC names.
+#
 # The library is x86-64 code. On an aarch64 machine all is built for x86-64
 # with Debian's cross compiler, which is installed if it is missing, and
 # test/run.sh runs it under an emulator.
 set -euo pipefail
-top="$(cd "$(dirname "${BASH_SOURCE[0]}")/.." && pwd)"
+top="$(dirname "$(dirname "$(readlink -f "${BASH_SOURCE[0]}")")")"
 folder="${1:-$top/target/staticlib}"
 to="$top/target/test"
 flags=(-std=c11 -O2 -Wall -Wextra)
 
 case "$(uname -m)" in
 x86_64)
-    cc="${CC:-gcc}"
+    cc="${CC:-cc}"
     ;;
 aarch64)
     cc=x86_64-linux-gnu-gcc
@@ -42,7 +44,7 @@ flags+=(-I "$top/include" -I "$top/reference" -I "$top/test")
 
 mkdir -p "$to"
 objects=()
-for source in reference/ref test/flows test/cases test/named_cases test/lent; do
+for source in reference/ref test/flows test/cases test/named_cases test/lent test/words; do
     object="$to/$(basename "$source").o"
     "$cc" "${flags[@]}" -c "$top/$source.c" -o "$object"
     objects+=("$object")

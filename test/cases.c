@@ -54,8 +54,10 @@ static uint32_t some_tasks(struct random *random, enum sizes sizes)
     }
     if (kind < 50)
         return between(random, 1, 8);
-    if (kind < 70) /* about a whole number of blocks */
-        return 10 * between(random, 1, chance(random, 800) ? 3 : 19) + between(random, 0, 2) - 1;
+    if (kind < 70) { /* about a whole number of blocks */
+        uint32_t blocks = between(random, 1, chance(random, 800) ? 3 : 19);
+        return 10 * blocks + between(random, 0, 2) - 1;
+    }
     if (kind < 94)
         return between(random, 1, 60);
     return chance(random, 500) ? between(random, 1, 200) : between(random, 189, 200);
@@ -272,8 +274,10 @@ static void damage_byte(struct random *random, uint8_t *at)
 static size_t some_byte(struct random *random, const struct sample *flow, size_t length)
 {
     uint32_t kind = below(random, 10);
-    if (kind < 3)
-        return BLOCK_BYTES * below(random, blocks_of(flow->tasks)) + below(random, 16);
+    if (kind < 3) {
+        uint32_t block = below(random, blocks_of(flow->tasks));
+        return BLOCK_BYTES * block + below(random, 16);
+    }
     if (kind < 8) {
         uint32_t task = below(random, flow->tasks);
         uint32_t byte = chance(random, 500) ? below(random, 18) : below(random, ROW_BYTES);
@@ -363,6 +367,49 @@ static void make_noise(struct random *random, struct test_case *made)
 
 /* ---- files ------------------------------------------------------------- */
 
+static void choose_faults(struct random *random, struct test_case *made,
+                          const struct sample *flow, uint32_t kind)
+{
+    static const char *const kinds[] = {"one fault", "two faults", "three faults"};
+    uint32_t count = kind < 4 ? 1 : kind < 6 ? 2 : 3;
+
+    made->kind = kinds[count - 1];
+    spoil_file(random, made, flow, count);
+}
+
+static void damage_blindly(struct random *random, struct test_case *made,
+                           const struct sample *flow, uint32_t kind)
+{
+    static const char *const kinds[] = {
+        "one byte damaged", "one byte damaged, check put right", "several bytes damaged",
+        "truncated",        "extended",                          "blocks exchanged",
+        "zero or noise"};
+    bool put_right = kind == 1 || (kind == 2 && chance(random, 800));
+
+    made->kind = kinds[kind];
+    switch (kind) {
+    case 0:
+    case 1:
+        damage_file(random, made, flow, 1, put_right);
+        break;
+    case 2:
+        damage_file(random, made, flow, between(random, 2, 8), put_right);
+        break;
+    case 3:
+        truncate_file(random, made);
+        break;
+    case 4:
+        extend_file(random, made);
+        break;
+    case 5:
+        exchange_blocks(random, made);
+        break;
+    default:
+        make_noise(random, made);
+        break;
+    }
+}
+
 static void some_file(struct random *random, struct test_case *made,
                       const struct sample *flow)
 {
@@ -373,52 +420,11 @@ static void some_file(struct random *random, struct test_case *made,
     made->input_len = make_file(flow, made->input);
     if (chance(random, valid))
         return;
-    switch (below(random, 14)) {
-    case 0:
-    case 1:
-    case 2:
-    case 3:
-        made->kind = "one fault";
-        spoil_file(random, made, flow, 1);
-        break;
-    case 4:
-    case 5:
-        made->kind = "two faults";
-        spoil_file(random, made, flow, 2);
-        break;
-    case 6:
-        made->kind = "three faults";
-        spoil_file(random, made, flow, 3);
-        break;
-    case 7:
-        made->kind = "one byte damaged";
-        damage_file(random, made, flow, 1, false);
-        break;
-    case 8:
-        made->kind = "one byte damaged, check put right";
-        damage_file(random, made, flow, 1, true);
-        break;
-    case 9:
-        made->kind = "several bytes damaged";
-        damage_file(random, made, flow, between(random, 2, 8), chance(random, 800));
-        break;
-    case 10:
-        made->kind = "truncated";
-        truncate_file(random, made);
-        break;
-    case 11:
-        made->kind = "extended";
-        extend_file(random, made);
-        break;
-    case 12:
-        made->kind = "blocks exchanged";
-        exchange_blocks(random, made);
-        break;
-    default:
-        made->kind = "zero or noise";
-        make_noise(random, made);
-        break;
-    }
+    uint32_t kind = below(random, 14);
+    if (kind < 7)
+        choose_faults(random, made, flow, kind);
+    else
+        damage_blindly(random, made, flow, kind - 7);
 }
 
 static void some_read(struct random *random, struct test_case *made,
@@ -433,6 +439,13 @@ static void some_read(struct random *random, struct test_case *made,
 
 /* ---- the writer -------------------------------------------------------- */
 
+/* Right in its part below `unit` alone: that is from 1 to `most`. */
+static uint32_t right_below(struct random *random, uint32_t unit, uint32_t times, uint32_t most)
+{
+    uint32_t high = unit * between(random, 1, times);
+    return high + between(random, 1, most);
+}
+
 /* A number that is not from 1 to `most`; some look right in their low byte or
    their low half. */
 static uint32_t outside(struct random *random, uint32_t most)
@@ -443,9 +456,9 @@ static uint32_t outside(struct random *random, uint32_t most)
     case 1:
         return most + 1;
     case 2:
-        return 256 * between(random, 1, 1000) + between(random, 1, most);
+        return right_below(random, 256, 1000, most);
     case 3:
-        return UINT32_C(0x10000) * between(random, 1, 60000) + between(random, 1, most);
+        return right_below(random, 0x10000, 60000, most);
     case 4:
         return chance(random, 500) ? UINT32_MAX : UINT32_C(0x80000000) + between(random, 0, most);
     default:

@@ -11,11 +11,11 @@
 
 #include "lent.h"
 #include "named_cases.h"
+#include "words.h"
 
 #include <inttypes.h>
 #include <signal.h>
 #include <stdio.h>
-#include <stdlib.h>
 #include <string.h>
 #include <sys/mman.h>
 #include <time.h>
@@ -32,7 +32,7 @@ static struct test_case current;
 
 static uint64_t seed = 20220127;
 static uint64_t case_number;
-static bool named; /* the case is one that 01 names, and not from the seed */
+static bool named; /* the case is one of named_cases, and not from the seed */
 static const char *volatile inside = "no call";
 
 /* ---- what is met ------------------------------------------------------- */
@@ -104,7 +104,7 @@ static void print_answer(const struct calls *calls, const struct memory *memory)
 static void print_which(void)
 {
     if (named)
-        printf("a case of 01: ");
+        printf("a named case: ");
     else
         printf("seed %" PRIu64 " case %" PRIu64 ": ", seed, case_number);
     printf("%s, %s: ", call_name(current.call), current.kind);
@@ -244,7 +244,7 @@ static bool case_passes(void)
     return true;
 }
 
-/* The cases that 01 names, in each of the three ways to lend. */
+/* The named cases, in each of the three ways to lend. */
 static bool named_cases_pass(void)
 {
     bool pass = true;
@@ -327,16 +327,13 @@ static double now(void)
     return (double)time.tv_sec + (double)time.tv_nsec * 1e-9;
 }
 
-static uint64_t number_argument(int count, char **arguments, int index, uint64_t otherwise)
-{
-    return index < count ? strtoull(arguments[index], NULL, 0) : otherwise;
-}
-
 int main(int count, char **arguments)
 {
-    uint64_t cases = number_argument(count, arguments, 1, 100000);
-    seed = number_argument(count, arguments, 2, seed);
-    uint64_t first = number_argument(count, arguments, 3, 0);
+    struct words words = words_of("differential", count, arguments);
+    uint64_t cases = next_number(&words, "CASES", 1, UINT32_MAX, 100000);
+    seed = next_number(&words, "SEED", 0, UINT64_MAX, seed);
+    uint64_t first = next_number(&words, "FIRST", 0, UINT64_MAX - cases, 0);
+    no_more_words(&words);
 
     open_memory(&library_memory);
     open_memory(&reference_memory);

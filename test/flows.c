@@ -240,6 +240,13 @@ static uint8_t from(struct random *random, uint32_t least)
     return (uint8_t)between(random, least, 255);
 }
 
+/* A byte that is not zero, at one of some places. */
+static void put_from_1(struct random *random, uint8_t *bytes, uint32_t count)
+{
+    uint32_t at = below(random, count);
+    bytes[at] = from(random, 1);
+}
+
 static void spoil_counts(struct random *random, uint8_t *row)
 {
     switch (below(random, 4)) {
@@ -264,7 +271,7 @@ static void spoil_access(struct random *random, uint8_t *row, uint32_t cells)
     uint8_t *access = row + 4 + 2 * index;
 
     if (index >= row[1])
-        access[below(random, 2)] = from(random, 1);
+        put_from_1(random, access, 2);
     else if (chance(random, 400))
         access[0] = from(random, cells);
     else if (chance(random, 500))
@@ -306,7 +313,7 @@ static void spoil_used_operation(struct random *random, uint8_t *operation, uint
         if (operation[0] == 1)
             operation[2] = from(random, 1);
         else
-            operation[4 + below(random, 2)] = from(random, 1);
+            put_from_1(random, operation + 4, 2);
         break;
     }
 }
@@ -317,7 +324,7 @@ static void spoil_operation(struct random *random, uint8_t *row, uint32_t cells)
     uint8_t *operation = row + 12 + 6 * index;
 
     if (index >= row[2])
-        operation[below(random, 6)] = from(random, 1);
+        put_from_1(random, operation, 6);
     else
         spoil_used_operation(random, operation, cells);
 }
@@ -355,15 +362,16 @@ static void spoil_modes(struct random *random, uint8_t *row, uint32_t cells)
 
     if (closed != 0 && (hidden == 0 || chance(random, 500))) {
         uint32_t b = readable != 0 ? cell_of(random, readable) : below(random, cells);
-        put_operation(row, index, code, cell_of(random, closed),
-                      code == 1 ? 0 : b, code == 1 ? constant(random) : 0);
+        uint32_t k = code == 1 ? constant(random) : 0;
+        put_operation(row, index, code, cell_of(random, closed), code == 1 ? 0 : b, k);
     } else if (hidden != 0) {
         uint32_t a = writable != 0 ? cell_of(random, writable) : below(random, cells);
         uint32_t b = cell_of(random, hidden);
         if (readable != 0 && chance(random, 300)) {
             /* codes 3, 4 and 6 read a as well */
             static const uint8_t codes[] = {3, 4, 6};
-            put_operation(row, index, codes[below(random, 3)], b, cell_of(random, readable), 0);
+            uint32_t read = cell_of(random, readable);
+            put_operation(row, index, codes[below(random, 3)], b, read, 0);
         } else {
             put_operation(row, index, code == 1 ? 2 : code, a, b, 0);
         }
@@ -453,13 +461,15 @@ static void put_tasks(uint8_t *file, uint32_t blocks, uint32_t tasks)
 
 static uint32_t tasks_outside(struct random *random)
 {
+    uint32_t high;
     switch (below(random, 4)) {
     case 0:
         return 0;
     case 1:
         return 201;
     case 2:
-        return 256 * between(random, 1, 255) + below(random, 201);
+        high = 256 * between(random, 1, 255);
+        return high + below(random, 201);
     default:
         return between(random, 201, 65535);
     }

@@ -1,6 +1,6 @@
 /*
- * The cases that the scope document (01) names, "A flow on the bench", with
- * the answers it gives for them, and its limits.
+ * Cases that the scope document (01) names, "A flow on the bench", and some at
+ * its limits, with the answers that it asks for.
  */
 #ifndef NAMED_CASES_H
 #define NAMED_CASES_H

@@ -6,15 +6,34 @@
 # On an aarch64 machine it runs under the emulator that the Rattle kit ships,
 # where a time that is measured says nothing.
 set -euo pipefail
-top="$(cd "$(dirname "${BASH_SOURCE[0]}")/.." && pwd)"
-if [ $# -eq 0 ]; then
-    echo "run.sh: a name is needed: scope, differential, vectors, errors or bench" >&2
+top="$(dirname "$(dirname "$(readlink -f "${BASH_SOURCE[0]}")")")"
+case "${1-}" in
+scope | differential | vectors | errors | bench) ;;
+*)
+    echo "run.sh: a name is needed: scope, differential, vectors, errors or bench, not '${1-}'" >&2
+    exit 2
+    ;;
+esac
+program="$top/target/test/$1"
+if [ ! -x "$program" ]; then
+    echo "run.sh: target/test/$1 is not there; test/build.sh builds it" >&2
     exit 2
 fi
-program="$top/target/test/$1"
 shift
-if [ "$(uname -m)" = aarch64 ]; then
+case "$(uname -m)" in
+x86_64)
+    exec "$program" "$@"
+    ;;
+aarch64)
+    if ! command -v rt >/dev/null; then
+        echo "run.sh: the Rattle toolchain (rt), which has the emulator, is not found" >&2
+        exit 1
+    fi
     kit="$(dirname "$(dirname "$(rt doc)")")"
     exec "$kit/on/aarch64/toolchain/bin/qemu-x86_64" "$program" "$@"
-fi
-exec "$program" "$@"
+    ;;
+*)
+    echo "run.sh: x86_64 or aarch64 is needed, not $(uname -m)" >&2
+    exit 2
+    ;;
+esac

@@ -1,6 +1,7 @@
 /*
- * The cases that the scope document (01) names, on the reference and, where it
- * is linked, on the library. A line for each that goes wrong, then a count.
+ * The named cases, and flow A written and read, on the reference and, where it
+ * is linked, on the library; the sums of the check on the reference. A line for
+ * each that goes wrong, then a count.
  */
 #include "named_cases.h"
 #include "lent.h"
@@ -90,6 +91,6 @@ int main(void)
     try_flow_a(&library);
     tried = "the reference and the library";
 #endif
-    printf("the cases of 01 on %s: %" PRIu32 " wrong\n", tried, failed);
+    printf("the named cases on %s: %" PRIu32 " wrong\n", tried, failed);
     return failed == 0 ? 0 : 1;
 }

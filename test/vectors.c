@@ -3,10 +3,9 @@
  *
  *     vectors [CASES [SEED]] > FILE
  *
- * First the cases that the scope document names, then some with the largest
- * flow, then some with a schedule that is too long, then CASES made from the
- * seed, most of them small. The gate runs what it writes without words; that
- * is stored by
+ * First the named cases, then some with the largest flow, then some with a
+ * schedule that is too long, then CASES made from the seed, most of them
+ * small. The gate runs what it writes without words; that is stored by
  *
  *     test/build.sh && test/run.sh vectors > crates/vectors/stdin
  *
@@ -34,6 +33,7 @@
 #include "calls.h"
 #include "lent.h"
 #include "named_cases.h"
+#include "words.h"
 
 #include <inttypes.h>
 #include <stdio.h>
@@ -119,7 +119,6 @@ static void put_case(void)
 
     call_case(&reference, &current, IN_THE_MIDDLE, 0, &memory);
     if (misdeed(&memory, &current) != NULL || memory.returned >= NUMBERS ||
-        memory.returned != answer_at(&memory, 0) ||
         (current.known && (memory.returned != current.number ||
                            answer_at(&memory, 1) != current.place))) {
         fprintf(stderr, "vectors: the reference is wrong on: %s\n", current.kind);
@@ -155,7 +154,8 @@ static void put_plain_largest(const uint8_t *file, size_t length)
     put_case();
 }
 
-/* The same file and start under a fair schedule, long enough to finish. */
+/* The same file and start under a fair schedule of so many steps: the shorter
+   one does not finish. */
 static void put_run_largest(uint32_t steps)
 {
     current.call = CALL_RUN;
@@ -219,10 +219,12 @@ static void report(uint64_t cases)
 
 int main(int count, char **arguments)
 {
-    uint64_t cases = count > 1 ? strtoull(arguments[1], NULL, 0) : 2900;
-    uint64_t seed = count > 2 ? strtoull(arguments[2], NULL, 0) : 20220127;
-
-    uint64_t all = named_case_count + LARGEST + TOO_LONG + cases;
+    uint32_t others = named_case_count + LARGEST + TOO_LONG;
+    struct words words = words_of("vectors", count, arguments);
+    uint64_t cases = next_number(&words, "CASES", 0, UINT32_MAX - others, 2900);
+    uint64_t seed = next_number(&words, "SEED", 0, UINT64_MAX, 20220127);
+    uint64_t all = others + cases;
+    no_more_words(&words);
 
     open_memory(&memory);
     put_number((uint32_t)all);
