@@ -15,7 +15,7 @@ use Prim.Native.Nat.{ℕ, zero, suc, _+_, _*_, _<_, _≤_}
 use lib.ListN.{length, getD, drop, set}
 use lib.Dec.{ltb}
 use Rattle.layout.specs.Lists.{each}
-use Rattle.layout.specs.Flow.{Access, Operation, Task}
+use Rattle.layout.specs.Flow.{Access, Operation, Task, mostTasks, mostWorkers, mostCells, mostAccesses, mostOperations}
 use Rattle.layout.specs.Row.{accessAt, operationAt, taskOf}
 use Rattle.layout.specs.Block.{blocksFor}
 use Rattle.layout.specs.File.{rowAt, tasksIn}
@@ -148,33 +148,37 @@ notedAll private w number (access ∷ accesses) =
 
 -- the counters have their sizes
 pub record Shape (shared : List (List ℕ)) (private : List (List (List ℕ))) : Type 0 where
-  pub shared-size : length shared ≡ 32
-  pub private-size : length private ≡ 8
-  pub row-size : (w : ℕ) → w < 8 → length (getD private w []) ≡ 32
+  pub shared-size : length shared ≡ mostCells
+  pub private-size : length private ≡ mostWorkers
+  pub row-size : (w : ℕ) → w < mostWorkers → length (getD private w []) ≡ mostCells
 
 -- a row whose numbers are small enough to be used as indices
 pub record RowFits (row : List ℕ) (cells : ℕ) : Type 0 where
   pub size : length row ≡ 48
-  pub owner-fits : getD row 0 0 < 8
+  pub owner-fits : getD row 0 0 < mostWorkers
   pub some-access : 1 ≤ getD row 1 0
-  pub few-accesses : getD row 1 0 ≤ 4
-  pub few-operations : getD row 2 0 ≤ 6
-  pub access-cells : (j : ℕ) → j < getD row 1 0 → accessAt row j .cell < 32
+  pub few-accesses : getD row 1 0 ≤ mostAccesses
+  pub few-operations : getD row 2 0 ≤ mostOperations
+  pub access-cells : (j : ℕ) → j < getD row 1 0 → accessAt row j .cell < mostCells
   pub writes-cells : (i : ℕ) → i < getD row 2 0 → operationAt row i .a < cells
   pub reads-cells : (i : ℕ) → i < getD row 2 0 → operationAt row i .b < cells
 
 -- a file with so many tasks, whose rows are such
 pub record Ready (file : List ℕ) (tasks cells : ℕ) : Type 0 where
   pub size : length file ≡ 512 * blocksFor tasks
-  pub few-tasks : tasks ≤ 200
+  pub few-tasks : tasks ≤ mostTasks
   pub rows : (task : ℕ) → 1 ≤ task → task ≤ tasks → RowFits (rowAt file task) cells
 
 -- each worker that has tasks left stands somewhere in the next
 pub record Standing (file : List ℕ) (tasks : ℕ) (places : List (List ℕ)) : Type 0 where
-  pub stands : (w : ℕ) → w < 8 → getD (getD places w []) 0 0 < tasks
+  pub stands : (w : ℕ) → w < mostWorkers → getD (getD places w []) 0 0 < tasks
       → Stands (rowAt file (getD (getD places w []) 0 0 + 1)) (getD (getD places w []) 1 0) (getD (getD places w []) 2 0)
 
--- no counter has more reads than this
+-- the step asks that no counter has more reads than this; it adds 4 at most, and a run has at most 65,536 steps
+abbrev pub mostReads : ℕ
+mostReads = 300000
+
+-- no counter has more reads than so many
 pub record ReadsAtMost (limit : ℕ) (m : Machine) : Type 0 where
   pub shared-reads : (c : ℕ) → m .shared c .reads ≤ limit
   pub private-reads : (w c : ℕ) → m .private w c .reads ≤ limit
@@ -183,7 +187,7 @@ pub record ReadsAtMost (limit : ℕ) (m : Machine) : Type 0 where
 pub record Sound (file : List ℕ) (tasks : ℕ) (kept : Arrays) : Type 0 where
   pub ready : Ready file tasks (length (kept .cells))
   pub shape : Shape (kept .shared) (kept .private)
-  pub places-size : length (kept .places) ≡ 8
+  pub places-size : length (kept .places) ≡ mostWorkers
   pub standing : Standing file tasks (kept .places)
 
 -- ---- what a step does to the arrays

@@ -6,7 +6,7 @@ ghost use Prim.Native.Nat.{ℕ, _+_, _<_, _≤_};
 ghost use lib.ListN.{length, getD};
 ghost use Rattle.layout.specs.Row.{accessAt, taskOf};
 ghost use Rattle.steps.specs.Step.{writes};
-ghost use Rattle.machine.specs.Arrays.{noted, notedAll};
+ghost use Rattle.machine.specs.Arrays.{noted, notedAll, mostReads};
 
 // Whether the access at an index of a row is a write.
 pub fn is_write(row: &[u8], index: usize) -> bool
@@ -35,7 +35,7 @@ pub(crate) fn note(private: &mut AllCounters, w: usize, cell: usize, write: bool
 pub(crate) fn register(row: &[u8], w: usize, number: u32, private: &mut AllCounters)
     requires { ⌜ (length (now row) ≡ 48) × (getD (now row) 1 0 ≤ 4) × (w < 8) ⌝ }
     requires { ⌜ ((j : ℕ) → j < getD (now row) 1 0 → accessAt (now row) j .cell < 32) ⌝ }
-    requires { ⌜ ((c : ℕ) → getD (getD (getD (now «private») w []) c []) 1 0 ≤ 300000) ⌝ }
+    requires { ⌜ ((c : ℕ) → getD (getD (getD (now «private») w []) c []) 1 0 ≤ mostReads) ⌝ }
     ensures { λ _. ⌜ now («private» .exit) ≡ notedAll (now («private» .entry)) w number (taskOf (now (row .entry)) .accesses) ⌝ }
 {
     let count = octets::index(row[1]);

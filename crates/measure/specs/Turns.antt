@@ -6,13 +6,13 @@ use lib.Dec.{ltb}
 use Rattle.layout.specs.Lists.{each}
 
 -- the worker after one, and after the last the first again
-abbrev pub following : ℕ → ℕ → ℕ
-following workers w = cond (ltb (w + 1) workers) (w + 1) 0
+abbrev pub nextTurn : ℕ → ℕ → ℕ
+nextTurn workers w = cond (ltb (w + 1) workers) (w + 1) 0
 
 -- the worker named at an index
 unfoldable pub turn : ℕ → ℕ → ℕ
 turn workers zero = 0
-turn workers (suc i) = following workers (turn workers i)
+turn workers (suc i) = nextTurn workers (turn workers i)
 
 -- so many steps in turn
 abbrev pub turns : ℕ → ℕ → List ℕ

@@ -2,11 +2,11 @@
 ghost use mathlib.Core.Path.{_≡_};
 ghost use Prim.Native.Nat.{ℕ};
 ghost use lib.ListN.{length};
-ghost use Rattle.measure.specs.Turns.{following, turns};
+ghost use Rattle.measure.specs.Turns.{nextTurn, turns};
 
 // The worker after one, and after the last the first again.
 fn next_turn(workers: u8, w: u8) -> u8
-    ensures { λ r. ⌜ r ≡ following workers w ⌝ }
+    ensures { λ r. ⌜ r ≡ nextTurn workers w ⌝ }
 {
     if w < 255 {
         if w + 1 < workers {

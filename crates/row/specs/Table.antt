@@ -6,7 +6,7 @@ use mathlib.Core.List.{List}
 use Prim.Native.Nat.{ℕ, _<_}
 use lib.ListN.{length, getD}
 use lib.Dec.{eqb}
-use Rattle.layout.specs.Flow.{Access, Operation}
+use Rattle.layout.specs.Flow.{Access, Operation, mostCells}
 use Rattle.layout.specs.Row.{modeOf, written, mayWrite, readsA, readsB}
 
 -- a cell's mode after some operations
@@ -16,7 +16,7 @@ modeAfter accesses earlier cell =
 
 -- the table holds each cell's mode after some operations
 pub record Table (accesses : List Access) (earlier : List Operation) (modes : List ℕ) : Type 0 where
-  pub holds : (cell : ℕ) → cell < 32 → getD modes cell 0 ≡ modeAfter accesses earlier cell
+  pub holds : (cell : ℕ) → cell < mostCells → getD modes cell 0 ≡ modeAfter accesses earlier cell
 
 -- a cell of mode 1 or 3 may be read
 abbrev pub readable : ℕ → Bool

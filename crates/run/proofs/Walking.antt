@@ -25,7 +25,7 @@ use Rattle.machine.specs.declared.Outcome.{Outcome}
 use Rattle.machine.specs.declared.Outcome.the-variants.{Advanced, PastLast, WriteDiffers, ReadsDiffer}
 use Rattle.machine.proofs.Outcome.{the-type}
 use Rattle.machine.specs.Outcomes.{outcomeOf}
-use Rattle.machine.specs.Arrays.{counterOf, counterAt, placeOf, Arrays, arrays, machineOf, Stands, Ready, ReadsAtMost, Sound, settingIn, StepDone}
+use Rattle.machine.specs.Arrays.{counterOf, counterAt, placeOf, Arrays, arrays, machineOf, Stands, Ready, mostReads, ReadsAtMost, Sound, settingIn, StepDone}
 use Rattle.machine.proofs.Places.{none-made}
 use Rattle.machine.proofs.Growth.{more-reads, file-step-reads}
 use Rattle.run.specs.Promises.{Walked}
@@ -122,10 +122,10 @@ module _ (file : List ℕ) (tasks : ℕ) where
     -- the step can be taken
     pub step-ready : (workers w : ℕ) → workers ≤ 8 → length schedule ≤ 65536 → ((i : ℕ) → i < length schedule → getD schedule i 0 < workers)
         → w ≡ getD schedule passed 0
-        → (Sound file tasks kept × (w < 8)) × ReadsAtMost 300000 (machineOf held-in kept)
+        → (Sound file tasks kept × (w < 8)) × ReadsAtMost mostReads (machineOf held-in kept)
     step-ready workers w few short names is = (
       (walking .sound, omega (arith, names passed within)),
-      more-reads (4 * passed) 300000 (machineOf held-in kept) (omega arith) (walking .reads),
+      more-reads (4 * passed) mostReads (machineOf held-in kept) (omega arith) (walking .reads),
     )
 
     module _ (w : ℕ) (is : w ≡ getD schedule passed 0) (after : Arrays) where

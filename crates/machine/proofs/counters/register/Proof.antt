@@ -11,7 +11,7 @@ use Rattle.layout.specs.Lists.{each}
 use Rattle.layout.specs.Row.{accessAt, taskOf}
 use Rattle.layout.proofs.Modes.{each-drop, each-drop-all}
 use Rattle.steps.specs.Step.{writes}
-use Rattle.machine.specs.Arrays.{noted, notedAll}
+use Rattle.machine.specs.Arrays.{noted, notedAll, mostReads}
 use Rattle.machine.proofs.counters.register.Statement.{statement}
 use Rattle.machine.proofs.counters.register.Tie as tie
 
@@ -56,7 +56,7 @@ noted-next row count w number j cell write all before after more of-cell of-writ
 
 abbrev Inv-loop : tie.InvT-loop
 Inv-loop row w number private₀ count j₀ private j =
-    (j ≤ count) × ((c : ℕ) → readsAt private w c ≤ 300000 + j)
+    (j ≤ count) × ((c : ℕ) → readsAt private w c ≤ mostReads + j)
     × (notedAll private₀ w number (each count (accessAt row)) ≡ notedAll private w number (drop j (each count (accessAt row))))
 
 abbrev μ-loop : tie.MeasureT-loop
@@ -84,8 +84,8 @@ loop-again c =
       omega arith,
       λ x.
           rw (c .note .ensures)
-          (reads-noted (at .loop .private) (a .w) (read .index2 .result) (c .before .before .is-write .result) (a .number) (300000 + at .loop .j)
-          (300000 + (at .loop .j + 1))
+          (reads-noted (at .loop .private) (a .w) (read .index2 .result) (c .before .before .is-write .result) (a .number) (mostReads + at .loop .j)
+          (mostReads + (at .loop .j + 1))
           (omega arith)
           (at .loop .inv .1)
           x),

@@ -6,7 +6,7 @@ use native.Mathlib.Numerals.{add-one}
 use borrow.Author.Needs.{needs}
 use lib.ListN.{length, drop}
 use Rattle.layout.specs.Lists.{each}
-use Rattle.measure.specs.Turns.{following, turn}
+use Rattle.measure.specs.Turns.{nextTurn, turn}
 use Rattle.measure.proofs.Filled.{filled-more, filled-all}
 use Rattle.measure.proofs.turns.in_turn.Statement.{statement}
 use Rattle.measure.proofs.turns.in_turn.Tie as tie
@@ -30,7 +30,7 @@ loop-again c =
     let at = c .before .before .loop in (
       search needs,
       search needs,
-      c .next-turn .ensures ∙ ap (following (a .workers)) (at .inv .2) ∙ ap (turn (a .workers)) (sym (add-one (at .i))),
+      c .next-turn .ensures ∙ ap (nextTurn (a .workers)) (at .inv .2) ∙ ap (turn (a .workers)) (sym (add-one (at .i))),
       filled-more (turn (a .workers)) (a .schedule .now) (at .schedule) (at .i) (search needs) (at .inv .3) (at .w) (at .inv .2),
     )
 
