@@ -37,7 +37,7 @@ impl Setting {
             b'c' => self.cells = n,
             b'i' => self.into = octets::offset(n),
             b'l' => self.length = octets::offset(n),
-            _ => {}
+            _ => say::text(b" unknown word"),
         }
         self
     }
@@ -80,7 +80,7 @@ fn assign(
     setting
 }
 
-// A word without one, by its first letter.
+// A word without one, by its first letter. The colon after the name is none.
 fn command(name: u8, setting: Setting, rows: &[u8], file: &mut [u8]) -> Setting {
     match name {
         b'f' => {
@@ -92,7 +92,8 @@ fn command(name: u8, setting: Setting, rows: &[u8], file: &mut [u8]) -> Setting 
         b'c' => calls::check(setting, file),
         b'r' => calls::read(setting, rows, file),
         b'e' => calls::ends(file),
-        _ => {}
+        b':' => {}
+        _ => say::text(b" unknown word"),
     }
     setting
 }
