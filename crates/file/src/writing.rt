@@ -64,7 +64,7 @@ fn fill_blocks(rows: &[u8], out: &mut [u8], flow: Flow)
     let mut index: u32 = 0;
     while index < blocks {
         let from = octets::offset(512 * index);
-        block::fill(&mut out[from..from + 512], rows, index, flow);
+        filler::fill(&mut out[from..from + 512], rows, index, flow);
         index += 1;
     }
 }

@@ -1,13 +1,13 @@
--- `filling::seal` meets its contract: the sums are below 255, so each is a byte, and the two are stored at the end.
+-- `filler::seal` meets its contract: the sums are below 255, so each is a byte, and the two are stored at the end.
 use mathlib.Core.Path.{_≡_, ap₂, _∙_}
 use mathlib.Core.List.{[], _∷_, _++_}
 use Prim.Native.Nat.{ℕ}
 use borrow.Author.Needs.{needs}
 use lib.ListN.{take}
 use Rattle.layout.proofs.Fletcher.{fletcher-small}
-use Rattle.block.proofs.Parts.{below-255, stored-two}
-use Rattle.block.proofs.filling.seal.Statement.{statement}
-use Rattle.block.proofs.filling.seal.Tie as tie
+use Rattle.filler.proofs.Parts.{below-255, stored-two}
+use Rattle.filler.proofs.seal.Statement.{statement}
+use Rattle.filler.proofs.seal.Tie as tie
 
 cast-part : tie.Need-cast-part
 cast-part c = below-255 _ _ (c .before .sums-of .ensures .0) (fletcher-small _ .a)

@@ -1,7 +1,7 @@
--- `filling::head` meets its contract: the sixteen bytes are those of the definition, one by one.
+-- `filler::head` meets its contract: the sixteen bytes are those of the definition, one by one.
 use borrow.Author.Needs.{needs}
-use Rattle.block.proofs.filling.head.Statement.{statement}
-use Rattle.block.proofs.filling.head.Tie as tie
+use Rattle.filler.proofs.head.Statement.{statement}
+use Rattle.filler.proofs.head.Tie as tie
 
 returns : tie.Need-returns
 returns c = cc

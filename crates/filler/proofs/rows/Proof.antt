@@ -1,8 +1,8 @@
--- `filling::rows` meets its contract: what is copied to the front and cleared behind is the rows, padded.
+-- `filler::rows` meets its contract: what is copied to the front and cleared behind is the rows, padded.
 use borrow.Author.Needs.{needs}
-use Rattle.block.proofs.Parts.{copied-cleared}
-use Rattle.block.proofs.filling.rows.Statement.{statement}
-use Rattle.block.proofs.filling.rows.Tie as tie
+use Rattle.filler.proofs.Parts.{copied-cleared}
+use Rattle.filler.proofs.rows.Statement.{statement}
+use Rattle.filler.proofs.rows.Tie as tie
 
 returns : tie.Need-returns
 returns c =

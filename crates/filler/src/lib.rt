@@ -1,6 +1,6 @@
 // The filling of a block in its own part of the lent output: the head, the block's rows and zeros after them, and the check.
-use crate::LETTERS;
-use crate::VERSION;
+use block::LETTERS;
+use block::VERSION;
 use flow::Flow;
 ghost use mathlib.Core.Path.{_≡_};
 ghost use Prim.Native.Nat.{ℕ, _+_, _*_, _≤_, _<_};

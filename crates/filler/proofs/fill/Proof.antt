@@ -1,10 +1,10 @@
--- `filling::fill` meets its contract: head, rows and check, each in its part, are the block.
+-- `filler::fill` meets its contract: head, rows and check, each in its part, are the block.
 use mathlib.Core.Path.{ap, _∙_}
 use Prim.Native.Nat.{ℕ, _+_, _*_}
 use borrow.Author.Needs.{needs}
-use Rattle.block.proofs.Parts.{filled}
-use Rattle.block.proofs.filling.fill.Statement.{statement}
-use Rattle.block.proofs.filling.fill.Tie as tie
+use Rattle.filler.proofs.Parts.{filled}
+use Rattle.filler.proofs.fill.Statement.{statement}
+use Rattle.filler.proofs.fill.Tie as tie
 
 returns : tie.Need-returns
 returns c =
