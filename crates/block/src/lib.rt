@@ -1,7 +1,4 @@
-// A block of 512 bytes: the check of one, refusals 2 to 5, and the filling of one.
-mod filling;
-
-pub use filling::fill;
+// A block of 512 bytes: what it states, and its check, refusals 2 to 5.
 ghost use mathlib.Core.Path.{_≡_};
 ghost use Prim.Native.Nat.{ℕ, _+_, _*_, _≤_, _<_};
 ghost use lib.ListN.{length};

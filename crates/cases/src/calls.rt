@@ -1,4 +1,4 @@
-// The calls of the file crate that a case makes, and what stands in the lent bytes after them. Lent bytes are marked before a call.
+// The calls that a case makes on a file, and what stands in the lent bytes after them. Lent bytes are marked before a call.
 // After it those past the ones written are looked at, which with a refusal are all of them, and some more that were not lent.
 use crate::say;
 use crate::words::Setting;
@@ -42,14 +42,14 @@ fn begins(bytes: &[u8], given: &[u8], size: usize) -> bool {
 // Makes the rows a file, and answers its length.
 pub(crate) fn make(setting: Setting, rows: &[u8], file: &mut [u8]) -> usize {
     let size = least(setting.rows, rows.len());
-    let answer = file::write(&rows[0..size], setting.workers, setting.cells, file);
+    let answer = writer::write(&rows[0..size], setting.workers, setting.cells, file);
     octets::offset(answer.bytes)
 }
 
 pub(crate) fn write(setting: Setting, rows: &[u8], file: &mut [u8]) {
     let size = least(setting.rows, rows.len());
     let room = least(setting.into, file.len());
-    let answer = file::write(
+    let answer = writer::write(
         &rows[0..size],
         setting.workers,
         setting.cells,
@@ -70,7 +70,7 @@ pub(crate) fn read(setting: Setting, rows: &[u8], file: &[u8]) {
     let mut space = [MARK; 9700];
     let lent: &mut [u8] = &mut space;
     let room = least(setting.into, lent.len());
-    let answer = file::read(&file[0..size], &mut lent[0..room]);
+    let answer = reader::read(&file[0..size], &mut lent[0..room]);
     say::read(answer);
     let bytes = octets::offset(answer.bytes);
     if bytes != 0 {

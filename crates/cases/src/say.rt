@@ -1,9 +1,9 @@
 // What is written of an answer. Counts follow where one of them isn't zero, so that a line without them says that all are.
 use file::CheckAnswer;
-use file::ReadAnswer;
-use file::WriteAnswer;
 use fletcher::Sums;
 use libc::STDOUT_FILENO;
+use reader::ReadAnswer;
+use writer::WriteAnswer;
 
 pub(crate) fn text(words: &[u8]) {
     io::write_all(STDOUT_FILENO, words);

@@ -9,12 +9,9 @@ use lib.ListN.{length, take, drop, length-take, drop-of-length-le}
 use lib.Seq.{take-at, drop-at, take-length, drop-drop}
 use Rattle.layout.specs.Lists.{each, joined}
 use Rattle.layout.specs.Bytes.{part}
-use Rattle.layout.specs.Block.{blocksFor, blockOf}
-use Rattle.layout.specs.File.{rowStart, rowAt}
 use Rattle.layout.proofs.Lists.{each-more}
 use Rattle.roundtrip.proofs.Parts.{part-sized, part-length}
 use Rattle.roundtrip.proofs.Pieces.{joined-length}
-use Rattle.roundtrip.proofs.BlockWritten.{block-length}
 
 joined-append : (f : ℕ → List ℕ) (xs ys : List ℕ) → joined f (xs ++ ys) ≡ joined f xs ++ joined f ys
 unfolding joined
@@ -77,15 +74,3 @@ copied size from to place bytes lent piece fits e there =
     e ∙ ap₂ _++_ (take-length (part from (from + size) bytes)) (drop-of-length-le (part to (to + size) lent) none-left)
     ∙ append-nil (part from (from + size) bytes)
     ∙ ap (λ (k : ℕ). part k (k + size) bytes) there
-
--- ---- the pieces of a file
-
--- a row that stands in a file has its size
-pub row-long : (file : List ℕ) (tasks i : ℕ) → length file ≡ 512 * blocksFor tasks → i < tasks → length (rowAt file (i + 1)) ≡ 48
-row-long file tasks i e l =
-    ap length (part-sized (rowStart (i + 1)) 48 file) ∙ part-length (rowStart (i + 1)) 48 file (omega arith)
-
--- and so has a block that is made of rows
-pub block-long : (tasks workers cells : ℕ) (rows : List ℕ) (i : ℕ) → length rows ≡ 48 * tasks → i < blocksFor tasks
-    → length (blockOf tasks workers cells rows i) ≡ 512
-block-long tasks workers cells rows i e l = block-length tasks workers cells rows i (omega arith)

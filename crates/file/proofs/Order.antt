@@ -1,21 +1,19 @@
 -- The rules are asked in the order of the definitions, so the first part that refuses gives the answer: of a file the length, the
--- blocks and the rows; of given rows their length, the sizes and the rows; and the room that is lent last. What is asked with the
--- sizes that the code has at hand is asked with those that the definitions name, for they are the same.
+-- blocks and the rows; and for a call that fills lent bytes, their room last. What is asked with the sizes that the code has at hand
+-- is asked with those that the definitions name, for they are the same.
 use mathlib.Core.Path.{_≡_, refl, sym, ap, _∙_}
-use mathlib.Core.Bool.{Bool, true, false, cond}
+use mathlib.Core.Bool.{Bool, false, cond}
 use mathlib.Core.List.{List}
 use Prim.Native.Nat.{ℕ, _*_, _≤_, _<_}
 use native.Mathlib.Nat.{zero-add}
 use borrow.Author.Tests.{ne-eqb, le-leb, lt-leb}
 use lib.ListN.{length}
 use lib.Dec.{leb}
-use Rattle.layout.specs.Flow.{inRange}
 use Rattle.layout.specs.Refusal as Rules
 use Rattle.layout.specs.Refusal.{success, refusal, unless, orElse, firstAt}
 use Rattle.layout.specs.Row.{rowRefusal}
 use Rattle.layout.specs.Block.{blocksFor, blockRefusal}
 use Rattle.layout.specs.File.{blockAt, rowAt, tasksOf, workersOf, cellsOf, lengthSound, fileAnswer}
-use Rattle.layout.specs.Write.{rowCount, rowsSound, rowOfTask, rowsAnswer, writeAnswer}
 use Rattle.roundtrip.proofs.Kept.{second-given, rule-passed, none-at}
 use Rattle.roundtrip.proofs.BlockRules.{BlockKept, block-keeps}
 use Rattle.block.specs.declared.Sizes.{Sizes}
@@ -101,27 +99,3 @@ module _ {file : List ℕ} {blocks : ℕ} {sizes : Sizes} {met : Answer} (m : Bl
         kept .sizes .tasks-fit,
         kept .sizes .cells-fit,
       )
-
--- ---- given rows
-
-pub rows-refused : (rows : List ℕ) (workers cells room : ℕ) → rowsSound (length rows) ≡ false
-    → refusal 15 0 ≡ writeAnswer rows workers cells room
-unfolding writeAnswer rowsAnswer
-rows-refused rows workers cells room h = rw h
-
--- the first refusal among given rows
-abbrev pub fromGiven : List ℕ → ℕ → ℕ → ℕ → Rules.Answer
-fromGiven rows tasks workers cells = firstAt (λ task. rowRefusal workers cells (rowOfTask rows task)) 1 tasks
-
-module _ (rows : List ℕ) (tasks workers cells : ℕ) (whole : Sound 48 9600 (length rows) tasks) where
-  pub sizes-refused : (room : ℕ) → inRange tasks workers cells ≡ false → refusal 4 0 ≡ writeAnswer rows workers cells room
-  unfolding writeAnswer rowsAnswer
-  sizes-refused room h =
-      let range : inRange (rowCount rows) workers cells ≡ false = rw (whole .count-is) at h in
-      rw (whole .sound, range)
-
-  pub given-answers : inRange tasks workers cells ≡ true → fromGiven rows tasks workers cells ≡ rowsAnswer rows workers cells
-  unfolding rowsAnswer
-  given-answers h =
-      let range : inRange (rowCount rows) workers cells ≡ true = rw (whole .count-is) at h in
-      ap (λ (k : ℕ). fromGiven rows k workers cells) (whole .count-is) ∙ (rw (whole .sound, range))

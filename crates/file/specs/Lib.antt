@@ -1,3 +1,3 @@
--- What the public calls on a flow file answer and leave.
+-- What the check of a flow file answers.
 pub mod Answers
 pub mod Promises

@@ -85,7 +85,7 @@ pub record GivesRows (file : List ℕ) : Type 0 where
   -- task 1 first, then the others in order, each with its 48 bytes
   pub rows : answers (tasksOf file) file ≡ each (tasksOf file) (λ i. statedOf Row (rowAt file (i + 1)))
   pub sized : (i : ℕ) → i < tasksOf file → length (rowAt file (i + 1)) ≡ 48
-  -- the rows one after another are those of `file::read`
+  -- the rows one after another are those of `reader::read`
   pub together : joined (λ (a : Stated). a .row) (answers (tasksOf file) file) ≡ rowsOf file
   -- then the end at every call
   pub ended : (more : ℕ) → answers (tasksOf file + more) file ≡ answers (tasksOf file) file ++ each more (λ _. statedOf End noRow)

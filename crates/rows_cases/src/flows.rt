@@ -26,7 +26,7 @@ pub(crate) fn file_a() -> [u8; 512] {
     let mut rows = [0u8; 144];
     lay_a(&mut rows);
     let mut file = [0u8; 512];
-    file::write(&rows, 2, 3, &mut file);
+    writer::write(&rows, 2, 3, &mut file);
     file
 }
 
@@ -58,6 +58,6 @@ pub(crate) fn largest_file() -> [u8; 10240] {
     let mut rows = [0u8; 9600];
     lay_rows(&mut rows);
     let mut file = [0u8; 10240];
-    file::write(&rows, 2, 1, &mut file);
+    writer::write(&rows, 2, 1, &mut file);
     file
 }

@@ -2,9 +2,10 @@
 use mathlib.Core.Path.{_≡_, ap}
 use mathlib.Core.List.{List}
 use Prim.Native.Nat.{ℕ}
-use Rattle.file.specs.declared.ReadAnswer.{ReadAnswer}
-use Rattle.file.specs.declared.WriteAnswer.{WriteAnswer}
-use Rattle.file.specs.Promises.{ReadPromise, WritePromise}
+use Rattle.reader.specs.declared.ReadAnswer.{ReadAnswer}
+use Rattle.reader.specs.Promises.{ReadPromise}
+use Rattle.writer.specs.declared.WriteAnswer.{WriteAnswer}
+use Rattle.writer.specs.Promises.{WritePromise}
 use Rattle.run.specs.declared.PlainAnswer.{PlainAnswer}
 use Rattle.run.specs.declared.RunAnswer.{RunAnswer}
 use Rattle.run.specs.Promises.{PlainPromise, RunPromise}

@@ -24,7 +24,7 @@ pub extern "C" fn sflw_check(file: &[u8], answer: &mut [u32; 6]) -> u32
 pub extern "C" fn sflw_read(file: &[u8], rows: &mut [u8], answer: &mut [u32; 6]) -> u32
     ensures { λ r. ⌜ Read (now (file .entry)) (now (rows .entry)) r (now (rows .exit)) (now (answer .exit)) ⌝ }
 {
-    let met = file::read(file, rows);
+    let met = reader::read(file, rows);
     *answer = [
         met.number,
         met.place,
@@ -47,7 +47,7 @@ pub extern "C" fn sflw_write(
 ) -> u32
     ensures { λ r. ⌜ Written (now (rows .entry)) workers cells (now (out .entry)) r (now (out .exit)) (now (answer .exit)) ⌝ }
 {
-    let met = file::write(rows, workers, cells, out);
+    let met = writer::write(rows, workers, cells, out);
     *answer = [met.number, met.place, met.bytes];
     met.number
 }

@@ -1,0 +1,3 @@
+-- What the reader of a flow file answers and leaves.
+pub mod Answers
+pub mod Promises
