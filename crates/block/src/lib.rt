@@ -1,6 +1,6 @@
 // A block of 512 bytes: what it states, and its check, refusals 2 to 5.
 ghost use mathlib.Core.Path.{_≡_};
-ghost use Prim.Native.Nat.{ℕ, _+_, _*_, _≤_, _<_};
+ghost use Prim.Native.Nat.{_+_, _*_, _≤_, _<_};
 ghost use lib.ListN.{length};
 ghost use Rattle.layout.specs.Bytes.{at, word};
 ghost use Rattle.layout.specs.Block.{lettersSound, checkSound, headSound, sizesSound, restSound, blockRefusal};

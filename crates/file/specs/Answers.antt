@@ -14,6 +14,7 @@ answerOf met = record { number = met .number; place = met .place }
 abbrev pub checkRefused : Rules.Answer → CheckAnswer
 checkRefused met = record { number = met .number; place = met .place; tasks = 0; workers = 0; cells = 0 }
 
+-- the answer for a number and a place that are met: the sizes that block 0 states, zero with a refusal
 abbrev pub checkWith : Rules.Answer → List ℕ → CheckAnswer
 checkWith met file =
     record {
@@ -24,5 +25,6 @@ checkWith met file =
       cells = told met (cellsOf file);
     }
 
+-- the check's answer
 abbrev pub checkAnswer : List ℕ → CheckAnswer
 checkAnswer file = checkWith (fileAnswer file) file

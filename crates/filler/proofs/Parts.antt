@@ -3,14 +3,13 @@
 use mathlib.Core.Path.{_≡_, refl, sym, ap, ap₂, _∙_}
 use mathlib.Core.List.{List, [], _∷_, _++_, append-nil, append-assoc}
 use Prim.Native.Nat.{ℕ, _+_, _-_, _*_, _≤_, _<_}
-use native.Mathlib.Nat.{le-of-eq, le-refl, zero-add}
+use native.Mathlib.Nat.{le-of-eq}
 use native.Mathlib.Omega.{arith}
 use lib.ListN.{length, take, drop, set, replicate, length-append, length-take, length-drop, length-replicate, drop-of-length-le}
-use lib.Seq.{take-all, take-at, drop-drop, sets-eq, take-length, take-append-le}
+use lib.Seq.{take-all, take-at, drop-drop, sets-eq}
 use mir.Syntax.{w8}
 use mir.Val.{Fits}
 use Rattle.layout.specs.Bytes.{padded}
-use Rattle.layout.specs.Fletcher.{Sums, fletcher}
 use Rattle.layout.specs.Block.{headOf, rowsIn, bodyOf, sealed, blockOf}
 
 -- bytes in front of what is left of a list

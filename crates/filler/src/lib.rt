@@ -3,7 +3,7 @@ use block::LETTERS;
 use block::VERSION;
 use flow::Flow;
 ghost use mathlib.Core.Path.{_≡_};
-ghost use Prim.Native.Nat.{ℕ, _+_, _*_, _≤_, _<_};
+ghost use Prim.Native.Nat.{_+_, _*_, _≤_, _<_};
 ghost use lib.ListN.{length, take};
 ghost use Rattle.layout.specs.Bytes.{padded};
 ghost use Rattle.layout.specs.Block.{blocksFor, headOf, sealed, blockOf};

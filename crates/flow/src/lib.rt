@@ -1,6 +1,6 @@
 // The flow's own kind: its limits, which all code reads from here, and the sizes of one flow within them.
 ghost use mathlib.Core.Path.{_≡_};
-ghost use Prim.Native.Nat.{_+_, _*_, _≤_, _<_};
+ghost use Prim.Native.Nat.{_+_, _*_, _<_};
 ghost use Rattle.layout.specs.Flow.{inRange};
 ghost use Rattle.layout.specs.Block.{blocksFor, rowsIn};
 ghost use Rattle.flow.specs.Made.{statedBy, askedFor};

@@ -1,14 +1,12 @@
 -- How code that tests one rule after another meets the definition: a rule that isn't kept gives its number, one that is kept leaves the rest to
 -- those after it; and the first refusal among places is that of the first place which has one.
 use mathlib.Core.Path.{_≡_, refl, sym, ap, _∙_}
-use mathlib.Core.Bool.{Bool, true, false, not, cond, true≢false, false≢true}
+use mathlib.Core.Bool.{Bool, true, false, not, cond}
 use mathlib.Core.List.{List, [], _∷_}
-use Prim.Native.Nat.{ℕ, zero, suc, _+_, _-_, _<_, _≤_}
-use native.Mathlib.Nat.{sub-self}
+use Prim.Native.Nat.{ℕ, zero, suc, _+_, _-_, _<_}
 use native.Mathlib.Omega.{arith}
 use borrow.Author.Tests.{eq-eqb, ne-eqb, not-true, not-false}
-use lib.Dec.{eqb}
-use Rattle.layout.specs.Refusal.{Answer, success, refusal, firstBroken, orElse, firstAt}
+use Rattle.layout.specs.Refusal.{success, refusal, firstBroken, firstAt}
 
 -- ---- rules one after another
 

@@ -3,11 +3,11 @@
 use mathlib.Core.Bool.{Bool, _&&_}
 use mathlib.Core.List.{List, [], _∷_, _++_}
 use Prim.Native.Nat.{ℕ, _+_, _-_, _*_, _/_, min}
-use lib.ListN.{length, take, drop}
+use lib.ListN.{take, drop}
 use lib.Dec.{eqb}
 use Rattle.layout.specs.Bytes.{at, word, wordBytes, part, allZero, padded}
 use Rattle.layout.specs.Flow.{inRange}
-use Rattle.layout.specs.Fletcher.{Sums, fletcher}
+use Rattle.layout.specs.Fletcher.{fletcher}
 use Rattle.layout.specs.Refusal.{firstBroken}
 
 -- "the four letters SFLW"

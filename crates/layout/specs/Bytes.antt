@@ -1,5 +1,4 @@
 -- Bytes, as lists of numbers: one byte, a two-byte number, a part, bytes that are all zero (01, "The file").
-use mathlib.Core.Path.{_≡_}
 use mathlib.Core.Bool.{Bool, true, _&&_}
 use mathlib.Core.List.{List, [], _∷_, _++_}
 use Prim.Native.Nat.{ℕ, _+_, _-_, _*_, _/_, _%_, _<_}

@@ -1,14 +1,14 @@
 -- The file check (01, "The file" and "Numbers of refusal"): where a block and a row stand, the order in which refusals are met,
 -- the check as one function from bytes to a refusal or the accepted flow, and what the reader answers and leaves.
 use mathlib.Core.Bool.{Bool, cond, _&&_}
-use mathlib.Core.List.{List, [], _∷_, _++_}
+use mathlib.Core.List.{List, _++_}
 use Prim.Native.Nat.{ℕ, zero, suc, _+_, _-_, _*_, _/_, _%_}
 use lib.ListN.{length, drop}
 use lib.Dec.{eqb, leb}
 use Rattle.layout.specs.Lists.{each, joined}
 use Rattle.layout.specs.Bytes.{at, word, part}
 use Rattle.layout.specs.Flow.{Task, Flow}
-use Rattle.layout.specs.Refusal.{Answer, success, refusal, unless, orElse, firstAt}
+use Rattle.layout.specs.Refusal.{Answer, refusal, unless, orElse, firstAt}
 use Rattle.layout.specs.Row.{taskOf, rowRefusal}
 use Rattle.layout.specs.Block.{blockRefusal}
 

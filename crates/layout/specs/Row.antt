@@ -1,7 +1,7 @@
 -- A row of 48 bytes and refusals 6 to 11 (01, "The file" and "Numbers of refusal"): the task that a row holds, what each rule
 -- asks of it, and the first rule that it breaks. A rule on what a task may do is stated over the task; a rule on bytes that must
 -- be zero, over the row.
-use mathlib.Core.Bool.{Bool, true, false, not, cond, _&&_, _||_}
+use mathlib.Core.Bool.{Bool, true, not, cond, _&&_, _||_}
 use mathlib.Core.List.{List, [], _∷_, _++_}
 use Prim.Native.Nat.{ℕ, _+_, _*_}
 use lib.ListN.{length}

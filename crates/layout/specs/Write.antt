@@ -1,12 +1,12 @@
 -- The bytes of a flow, and what the writer answers and leaves (01, "The file" and "Numbers of refusal").
-use mathlib.Core.Bool.{Bool, cond, _&&_}
-use mathlib.Core.List.{List, [], _∷_, _++_}
+use mathlib.Core.Bool.{Bool, _&&_}
+use mathlib.Core.List.{List}
 use Prim.Native.Nat.{ℕ, _+_, _-_, _*_, _/_, _%_}
 use lib.ListN.{length}
 use lib.Dec.{eqb, leb}
 use Rattle.layout.specs.Lists.{each, joined}
 use Rattle.layout.specs.Bytes.{part}
-use Rattle.layout.specs.Flow.{Flow, mostTasks, mostWorkers, mostCells, upTo, inRange}
+use Rattle.layout.specs.Flow.{Flow, mostTasks, inRange}
 use Rattle.layout.specs.Refusal.{Answer, refusal, unless, orElse, firstAt}
 use Rattle.layout.specs.Row.{taskOf, rowOf, rowRefusal}
 use Rattle.layout.specs.Block.{blocksFor, blockOf}

@@ -1,7 +1,7 @@
 -- The part of a file that a row's start and its 48 bytes mark is the task's row, and in a file that is ready to be run it fits.
 use mathlib.Core.Path.{_≡_, sym, ap, subst}
 use mathlib.Core.List.{List}
-use Prim.Native.Nat.{ℕ, _+_, _-_, _<_, _≤_}
+use Prim.Native.Nat.{ℕ, _+_, _-_, _<_}
 use native.Mathlib.Omega.{arith}
 use lib.ListN.{take, drop}
 use Rattle.layout.specs.File.{rowStart, rowAt}

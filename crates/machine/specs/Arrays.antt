@@ -14,15 +14,14 @@ use mathlib.Core.List.{List, [], _∷_}
 use Prim.Native.Nat.{ℕ, zero, suc, _+_, _*_, _<_, _≤_}
 use lib.ListN.{length, getD, drop, set}
 use lib.Dec.{ltb}
-use Rattle.layout.specs.Lists.{each}
-use Rattle.layout.specs.Flow.{Access, Operation, Task, mostTasks, mostWorkers, mostCells, mostAccesses, mostOperations}
-use Rattle.layout.specs.Row.{accessAt, operationAt, taskOf}
+use Rattle.layout.specs.Flow.{Access, Task, mostTasks, mostWorkers, mostCells, mostAccesses, mostOperations}
+use Rattle.layout.specs.Row.{accessAt, operationAt}
 use Rattle.layout.specs.Block.{blocksFor}
 use Rattle.layout.specs.File.{rowAt, tasksIn}
 use Rattle.steps.specs.Operations.{effect}
 use Rattle.steps.specs.Machine.{Counter, Place, Machine, counter, place, withPlace}
 use Rattle.steps.specs.Run.{settingFor}
-use Rattle.steps.specs.Step.{Try, waitWrite, waitReads, operate, endRead, zeroReads, postWrite, writes, Setting, Outcome, outcome, change, Stepped, stepped, attempted, step}
+use Rattle.steps.specs.Step.{Try, waitWrite, waitReads, operate, endRead, zeroReads, postWrite, writes, Setting, Outcome, outcome, change, stepped, attempted, step}
 
 -- ---- counters
 

@@ -1,5 +1,4 @@
 -- The outcome of a step as the code gives it, and the one of the rules that it stands for.
-use Prim.Native.Nat.{ℕ}
 use Rattle.steps.specs.Step as Rules
 use Rattle.machine.specs.declared.Outcome.{Outcome}
 use Rattle.machine.specs.declared.Outcome.the-variants.{Advanced, PastLast, WriteDiffers, ReadsDiffer}

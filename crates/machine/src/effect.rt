@@ -1,6 +1,6 @@
 // What an operation does to the cells.
 ghost use mathlib.Core.Path.{_≡_};
-ghost use Prim.Native.Nat.{ℕ, _<_};
+ghost use Prim.Native.Nat.{_<_};
 ghost use lib.ListN.{length};
 ghost use Rattle.layout.specs.Row.{operationAt};
 ghost use Rattle.steps.specs.Operations.{becomes, effect, operated};

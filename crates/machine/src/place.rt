@@ -2,9 +2,8 @@
 use crate::Place;
 use crate::counters::is_write;
 ghost use mathlib.Core.Path.{_≡_};
-ghost use mathlib.Core.List.{[], _∷_};
-ghost use Prim.Native.Nat.{ℕ, _+_, _<_, _≤_};
-ghost use lib.ListN.{length, getD};
+ghost use Prim.Native.Nat.{_+_, _<_};
+ghost use lib.ListN.{length};
 ghost use Rattle.machine.specs.Arrays.{afterWait, afterEnd, nextPlace};
 
 // After the last wait of an access: the next access, or the operations, or the ends.

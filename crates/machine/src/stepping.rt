@@ -9,14 +9,14 @@ use crate::counters::register;
 use crate::effect::operate;
 use crate::place::next;
 ghost use mathlib.Core.Path.{_≡_};
-ghost use mathlib.Core.List.{List, []};
-ghost use Prim.Native.Nat.{ℕ, _+_, _<_, _≤_};
+ghost use mathlib.Core.List.{[]};
+ghost use Prim.Native.Nat.{_+_, _<_};
 ghost use lib.ListN.{length, getD};
 ghost use Rattle.layout.specs.Row.{accessAt};
 ghost use Rattle.steps.specs.Operations.{effect};
 ghost use Rattle.steps.specs.Step.{outcome, change as changed};
 ghost use Rattle.layout.specs.File.{tasksIn};
-ghost use Rattle.machine.specs.Arrays.{arrays, machineOf, passedAt, stageAt, indexAt, tryAt, Stands, Shape, RowFits, mostReads, ReadsAtMost, Sound, OwnStep, StepDone};
+ghost use Rattle.machine.specs.Arrays.{arrays, machineOf, tryAt, Stands, Shape, RowFits, mostReads, ReadsAtMost, Sound, OwnStep, StepDone};
 ghost use Rattle.machine.specs.Outcomes.{outcomeOf};
 
 // Whether the own step at a stage and an index is held, and why.

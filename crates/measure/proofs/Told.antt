@@ -1,13 +1,12 @@
 -- What the check tells and the sum of the tasks are what is measured of the file.
-use mathlib.Core.Path.{_≡_, refl, sym, ap, ap₂, _∙_}
-use mathlib.Core.Bool.{Bool, true, false, cond}
+use mathlib.Core.Path.{_≡_, sym, ap, ap₂, _∙_}
+use mathlib.Core.Bool.{Bool, cond}
 use mathlib.Core.List.{List}
 use Prim.Native.Nat.{ℕ, _*_, _≤_}
 use native.Mathlib.Omega.{arith}
 use borrow.Author.Tests.{ne-eqb}
 use lib.Dec.{eqb}
 use lib.ListN.{length}
-use Rattle.layout.specs.Flow.{Flow, Task}
 use Rattle.layout.specs.File.{fileAnswer, flowOf, tasksOf, workersOf, cellsOf, tasksIn}
 use Rattle.layout.specs.Refusal as Rules
 use Rattle.layout.proofs.Lists.{each-length}
@@ -19,7 +18,7 @@ use Rattle.steps.specs.Run.{totalOf, total}
 use Rattle.file.specs.declared.CheckAnswer.{CheckAnswer}
 use Rattle.file.specs.Promises.{CheckPromise}
 use Rattle.run.proofs.Accepted.{same-answer, accepted, tasks-are, workers-are, cells-are, tasks-held, workers-held, cells-held}
-use Rattle.measure.specs.Promises.{measuredOf, MeasurePromise}
+use Rattle.measure.specs.Promises.{MeasurePromise}
 use Rattle.measure.specs.declared.Measured.{Measured}
 
 abbrev pub measured : ℕ → ℕ → ℕ → ℕ → ℕ → ℕ → Measured

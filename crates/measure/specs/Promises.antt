@@ -1,8 +1,7 @@
 -- What the measuring of a flow file promises: the check's answer, and the flow's total, zero with a refusal.
 use mathlib.Core.Path.{_≡_}
 use mathlib.Core.List.{List}
-use Prim.Native.Nat.{ℕ, _<_, _≤_}
-use Rattle.layout.specs.Refusal.{Answer}
+use Prim.Native.Nat.{ℕ, _≤_}
 use Rattle.layout.specs.File.{fileAnswer, flowOf, tasksOf, workersOf, cellsOf, told}
 use Rattle.steps.specs.Run.{total}
 use Rattle.measure.specs.declared.Measured.{Measured}

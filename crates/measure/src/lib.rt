@@ -3,13 +3,12 @@ mod turns;
 
 pub use turns::in_turn;
 ghost use mathlib.Core.Path.{_≡_};
-ghost use Prim.Native.Nat.{ℕ, _+_, _-_, _*_, _≤_, _<_};
+ghost use Prim.Native.Nat.{_+_, _-_, _*_, _≤_, _<_};
 ghost use lib.ListN.{length, getD};
 ghost use Rattle.layout.specs.Row.{taskOf};
-ghost use Rattle.layout.specs.Block.{blocksFor};
-ghost use Rattle.layout.specs.File.{rowAt, tasksIn};
+ghost use Rattle.layout.specs.File.{tasksIn};
 ghost use Rattle.steps.specs.Run.{accessSteps, totalOf};
-ghost use Rattle.machine.specs.Arrays.{RowFits, Ready};
+ghost use Rattle.machine.specs.Arrays.{Ready};
 ghost use Rattle.measure.specs.Promises.{MeasurePromise};
 
 // What is measured: a refusal, or the flow's sizes and its total.

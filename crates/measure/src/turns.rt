@@ -1,6 +1,5 @@
 // The schedule that names the workers in turn.
 ghost use mathlib.Core.Path.{_≡_};
-ghost use Prim.Native.Nat.{ℕ};
 ghost use lib.ListN.{length};
 ghost use Rattle.measure.specs.Turns.{nextTurn, turns};
 

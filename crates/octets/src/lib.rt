@@ -1,6 +1,6 @@
 // What the format does with single bytes: two-byte numbers, bytes that are all zero, bytes set to zero.
 ghost use mathlib.Core.Path.{_≡_};
-ghost use Prim.Native.Nat.{ℕ, _+_, _*_, _/_, _%_, _≤_, _<_};
+ghost use Prim.Native.Nat.{_+_, _*_, _/_, _%_, _≤_, _<_};
 ghost use lib.ListN.{length, replicate};
 ghost use Rattle.layout.specs.Bytes.{allZero};
 

@@ -11,6 +11,7 @@ use Rattle.reader.specs.declared.ReadAnswer.{ReadAnswer}
 abbrev pub readRefused : Rules.Answer → ReadAnswer
 readRefused met = record { number = met .number; place = met .place; bytes = 0; tasks = 0; workers = 0; cells = 0 }
 
+-- the answer for a number and a place that are met: 48 bytes a task and the sizes, zero with a refusal
 abbrev pub readWith : Rules.Answer → List ℕ → ReadAnswer
 readWith met file =
     record {
@@ -22,6 +23,7 @@ readWith met file =
       cells = told met (cellsOf file);
     }
 
+-- the reader's answer
 abbrev pub readIs : List ℕ → List ℕ → ReadAnswer
 readIs file rows = readWith (readAnswer file (length rows)) file
 

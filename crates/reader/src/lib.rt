@@ -1,7 +1,7 @@
 // The reader: a file's rows, one after another, into lent bytes. It takes every input, and answers with 01's number and place.
 ghost use mathlib.Core.Path.{_≡_};
 ghost use mathlib.Core.List.{_++_};
-ghost use Prim.Native.Nat.{ℕ, _+_, _*_, _≤_, _<_};
+ghost use Prim.Native.Nat.{_+_, _*_, _≤_, _<_};
 ghost use lib.ListN.{length, drop};
 ghost use Rattle.layout.specs.Lists.{each, joined};
 ghost use Rattle.layout.specs.Refusal.{refusal};

@@ -2,9 +2,9 @@
 use flow::Flow;
 ghost use mathlib.Core.Path.{_≡_};
 ghost use mathlib.Core.Bool.{true};
-ghost use mathlib.Core.List.{List, []};
-ghost use Prim.Native.Nat.{ℕ, _+_, _*_, _≤_, _<_};
-ghost use lib.ListN.{length, getD, replicate};
+ghost use mathlib.Core.List.{[]};
+ghost use Prim.Native.Nat.{_+_, _*_, _≤_, _<_};
+ghost use lib.ListN.{length, replicate};
 ghost use Rattle.layout.specs.Lists.{each, all};
 ghost use Rattle.layout.specs.File.{rowStart};
 ghost use Rattle.layout.specs.Row.{accessAt, taskOf, ownerSound, countsSound, accessInRange, accessesSound, namedOnce, operationSound, operationsSound, modesSound, rowRefusal};

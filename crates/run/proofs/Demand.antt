@@ -1,13 +1,13 @@
 -- Demand 3 of the code: every outcome that the stepped run's contract allows, and that is no refusal, has it. The contract says that the answer
 -- and the cells are those of the steps, and the theorems of demand 3 speak of the same steps.
 use mathlib.Core.Path.{_≡_, refl, sym, ap, _∙_}
-use mathlib.Core.Bool.{Bool, true, false, cond, _&&_, true≢false}
+use mathlib.Core.Bool.{Bool, true, false, cond}
 use mathlib.Core.List.{List, [], _∷_, _++_}
-use Prim.Native.Nat.{ℕ, zero, suc, _+_, _<_, _≤_}
+use Prim.Native.Nat.{ℕ, _+_, _<_}
 use native.Mathlib.Omega.{arith}
 use borrow.Author.Tests.{leb-false}
 use lib.ListN.{length}
-use lib.Dec.{eqb, leb}
+use lib.Dec.{eqb}
 use Rattle.layout.specs.File.{flowOf}
 use Rattle.layout.proofs.Lists.{all-fails}
 use Rattle.roundtrip.proofs.Kept.{both-zero}
@@ -15,7 +15,7 @@ use Rattle.steps.specs.Operations.{effect}
 use Rattle.steps.specs.Plain.{afterTasks}
 use Rattle.steps.specs.Step.{Setting, Outcome, advanced, step}
 use Rattle.steps.specs.Run.{Run, counted, runFrom, run, finished}
-use Rattle.steps.specs.Answers.{Told, plainAnswer, plainCells, runAnswer, runTold, runCells}
+use Rattle.steps.specs.Answers.{plainAnswer, plainCells, runAnswer, runTold, runCells}
 use Rattle.steps.specs.Demand.{Demand3}
 use Rattle.steps.proofs.Longer.{longer-accepted}
 use Rattle.steps.proofs.Theorems.{holds, history-leaves, never-early}

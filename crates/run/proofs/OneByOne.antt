@@ -9,7 +9,7 @@ use Rattle.layout.specs.Flow.{Operation, Task}
 use Rattle.layout.specs.Lists.{each}
 use Rattle.layout.proofs.Modes.{each-drop, each-drop-all}
 use Rattle.layout.specs.Row.{operationAt}
-use Rattle.layout.specs.File.{rowStart, rowAt}
+use Rattle.layout.specs.File.{rowStart}
 use Rattle.machine.specs.Arrays.{RowFits, Ready}
 use Rattle.machine.proofs.Rows.{row-fits as fits-there}
 use Rattle.steps.specs.Operations.{Effect, operated}

@@ -11,9 +11,11 @@ use Rattle.steps.specs.Answers.{Told, plainAnswer, plainCells, runTold, runCell
 use Rattle.run.specs.declared.PlainAnswer.{PlainAnswer}
 use Rattle.run.specs.declared.RunAnswer.{RunAnswer}
 
+-- the plain run answers number and place only
 abbrev pub plainIs : Rules.Answer → PlainAnswer
 plainIs met = record { number = met .number; place = met .place }
 
+-- the stepped run's answer, field by field
 abbrev pub runIs : Told → RunAnswer
 runIs told =
     record {
@@ -25,13 +27,16 @@ runIs told =
       finished = told .finished;
     }
 
+-- a refusal, with zero counts and not finished
 abbrev pub runRefused : Rules.Answer → RunAnswer
 runRefused met = record { number = met .number; place = met .place; advanced = 0; held = 0; done = 0; finished = 0 }
 
+-- the contract of the plain run
 pub record PlainPromise (file cells : List ℕ) (r : PlainAnswer) (after : List ℕ) : Type 0 where
   pub answer : r ≡ plainIs (plainAnswer file cells)
   pub cells-after : after ≡ plainCells file cells
 
+-- the contract of the stepped run
 pub record RunPromise (file cells schedule : List ℕ) (r : RunAnswer) (after : List ℕ) : Type 0 where
   pub answer : r ≡ runIs (runTold file cells schedule)
   pub cells-after : after ≡ runCells file cells schedule

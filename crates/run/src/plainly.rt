@@ -1,7 +1,6 @@
 // The plain run: the tasks one after another.
 use crate::PlainAnswer;
 ghost use mathlib.Core.Path.{_≡_};
-ghost use Prim.Native.Nat.{ℕ, _≤_};
 ghost use lib.ListN.{length};
 ghost use Rattle.layout.specs.Row.{taskOf};
 ghost use Rattle.steps.specs.Operations.{effect};

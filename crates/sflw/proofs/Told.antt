@@ -1,5 +1,5 @@
 -- What the core call promises is what the call for C promises: the number and the words follow from the answer.
-use mathlib.Core.Path.{_≡_, ap}
+use mathlib.Core.Path.{ap}
 use mathlib.Core.List.{List}
 use Prim.Native.Nat.{ℕ}
 use Rattle.reader.specs.declared.ReadAnswer.{ReadAnswer}

@@ -1,5 +1,4 @@
 // The calls for programs in C. Each fills the words of its answer, in the order of include/sflw.h, and returns the number.
-ghost use mathlib.Core.Path.{_≡_};
 ghost use Rattle.sflw.specs.Words.{Checked, Read, Written, Plain, Ran};
 
 // Checks a flow file: its sizes and its total.

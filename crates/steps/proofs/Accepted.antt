@@ -1,9 +1,9 @@
 -- An accepted flow, start and schedule have all that demand 3 asks: the rules 6 to 11 that each row keeps, cells as many as the flow's, and bytes
 -- that name its workers. Tasks are numbered from 1, so their numbers differ, and operation 1 alone doesn't read b.
 use mathlib.Core.Path.{_≡_, refl, sym, ap, subst, _∙_}
-use mathlib.Core.Bool.{Bool, true, false, not, cond, _&&_, _||_, false≢true, true≢false}
+use mathlib.Core.Bool.{Bool, true, false, not, _&&_, _||_, false≢true}
 use mathlib.Core.List.{List}
-use Prim.Native.Nat.{ℕ, zero, suc, _+_, _<_, _≤_}
+use Prim.Native.Nat.{ℕ, _<_}
 use native.Mathlib.Nat.{zero-add}
 use native.Mathlib.Omega.{arith}
 use borrow.Author.Tests.{eqb-true, ltb-true, not-false}
@@ -11,17 +11,16 @@ use lib.ListN.{length, getD}
 use lib.Dec.{eqb, ltb, lit<}
 use Rattle.layout.specs.Flow.{Task, Flow, Operation}
 use Rattle.layout.specs.Row.{names, modeOf, mayWrite, mayRead, readsA, readsB, written, keepsModes}
-use Rattle.layout.specs.Refusal.{refusal, unless, firstAt}
+use Rattle.layout.specs.Refusal.{unless}
 use Rattle.layout.specs.File.{fileAnswer, flowOf, check, checkedAs, accepted}
 use Rattle.layout.proofs.Lists.{and-left, and-right}
-use Rattle.roundtrip.specs.Sound.{Sound, TaskSound}
+use Rattle.roundtrip.specs.Sound.{Sound}
 use Rattle.roundtrip.proofs.Theorems.{accepted-sound}
 use Rattle.roundtrip.proofs.Kept.{both-zero, rule-then, none-at}
 use Rattle.steps.specs.Operations.{becomes, effect}
-use Rattle.steps.specs.Step.{Setting}
 use Rattle.steps.specs.Run.{settingOf}
 use Rattle.steps.specs.Answers.{plainAnswer, runAnswer, startSound, scheduleSound, byteNumber}
-use Rattle.steps.specs.Conflict.{noTask, taskAt, operationOf, namesCell, Keeps, AllKeep, TellsApart, ReadsOnly}
+use Rattle.steps.specs.Conflict.{noTask, taskAt, operationOf, namesCell, AllKeep, ReadsOnly}
 use Rattle.steps.proofs.Demand3.{Asked}
 use Rattle.steps.proofs.Modes.{keeps-at}
 use Rattle.steps.proofs.Naming.{unnamed-mode}

@@ -1,24 +1,22 @@
 -- Progress. Take a worker that has gone past the fewest tasks. Where the owner of the next task has gone further, the worker is at another's task
 -- and registers it, which is never held. Where the owner is at it, all earlier tasks are complete, so nobody later can have posted or zeroed a cell
 -- that it still waits for, and its step advances.
-use mathlib.Core.Path.{_≡_, refl, sym, ap, subst, _∙_}
-use mathlib.Core.Bool.{Bool, true, false, cond}
-use mathlib.Core.List.{List}
-use Prim.Native.Nat.{ℕ, zero, suc, _+_, _<_, _≤_}
+use mathlib.Core.Path.{_≡_, refl, ap, _∙_}
+use mathlib.Core.Bool.{Bool, true, false}
+use Prim.Native.Nat.{ℕ, zero, suc, _<_, _≤_}
 use native.Mathlib.Nat.{not-suc-le-zero}
 use native.Mathlib.Omega.{arith}
-use borrow.Author.Tests.{eqb-true, eqb-false, eq-eqb, leb-true, leb-false}
+use borrow.Author.Tests.{eq-eqb, leb-true, leb-false}
 use lib.ListN.{length}
-use lib.Dec.{eqb, leb}
-use Rattle.layout.specs.Flow.{Task}
+use lib.Dec.{leb}
 use Rattle.layout.specs.Row.{namedOnce}
-use Rattle.steps.specs.Machine.{Machine, Place}
+use Rattle.steps.specs.Machine.{Machine}
 use Rattle.steps.specs.Step.{Setting, Try, waitWrite, waitReads, ownSteps, Outcome, advanced, Stepped, step}
-use Rattle.steps.specs.Conflict.{taskAt, AllKeep, Keeps}
+use Rattle.steps.specs.Conflict.{taskAt, AllKeep}
 use Rattle.steps.specs.Demand.{Progress}
 use Rattle.steps.proofs.Kind.{full}
 use Rattle.steps.proofs.OnCell.{on, stage, stage-end}
-use Rattle.steps.proofs.OwnMade.{ownMade, made-past, order}
+use Rattle.steps.proofs.OwnMade.{made-past, order}
 use Rattle.steps.proofs.Places.{facing, Trying, Passes, Waits, on-write, on-reads, StepView, past, other, held, view}
 use Rattle.steps.proofs.Protocol.{inv-free}
 use Rattle.steps.proofs.Rows.{kinds}

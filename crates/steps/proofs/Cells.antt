@@ -1,16 +1,16 @@
 -- The cells of a run are those of the values argument: each operation is made when every earlier task in conflict has made all of its own, and no
 -- other step touches a cell.
-use mathlib.Core.Path.{_≡_, refl, sym, ap, ap₂, subst, fun-ext, _∙_}
+use mathlib.Core.Path.{_≡_, refl, sym, ap, subst, fun-ext, _∙_}
 use mathlib.Core.Bool.{Bool, true, false, cond}
 use mathlib.Core.Logic.{_⊎_, inl, inr}
-use mathlib.Core.List.{List, _∷_}
-use Prim.Native.Nat.{ℕ, suc, _+_, _-_, _<_, _≤_, min}
+use mathlib.Core.List.{List}
+use Prim.Native.Nat.{ℕ, suc, _+_, _-_, _<_, _≤_}
 use native.Mathlib.Omega.{arith}
 use borrow.Author.Tests.{eqb-true}
-use lib.ListN.{length, drop}
+use lib.ListN.{length}
 use lib.Dec.{eqb}
 use Rattle.layout.specs.Flow.{Operation, Task}
-use Rattle.steps.specs.Machine.{Place, Machine, put, fresh}
+use Rattle.steps.specs.Machine.{Machine, fresh}
 use Rattle.steps.specs.Operations.{operated}
 use Rattle.steps.specs.Step.{Setting, Try, waitWrite, waitReads, operate, endRead, zeroReads, postWrite, ownSteps, change, Stepped, step}
 use Rattle.steps.specs.Conflict.{taskAt, operationOf, AllKeep, ReadsOnly}

@@ -1,22 +1,21 @@
 -- A task's operations come after all of its waits and before all of its ends. So a task that may make an operation has the cells that it names,
 -- every earlier task in conflict with it has ended its access, and so has made all of its operations.
-use mathlib.Core.Path.{_≡_, refl, sym, ap, ap₂, subst, _∙_}
-use mathlib.Core.Bool.{Bool, true, false, cond, _||_}
-use mathlib.Core.Logic.{_⊎_, inl, inr}
-use mathlib.Core.List.{List, _∷_}
-use Prim.Native.Nat.{ℕ, suc, _+_, _-_, _<_, _≤_, min}
+use mathlib.Core.Path.{_≡_, sym, ap₂, _∙_}
+use mathlib.Core.Bool.{Bool, true, false, _||_}
+use mathlib.Core.List.{List}
+use Prim.Native.Nat.{ℕ, _-_, _<_, _≤_, min}
 use native.Mathlib.Omega.{arith}
 use lib.ListN.{length}
 use Rattle.layout.specs.Flow.{Task}
 use Rattle.steps.specs.Machine.{Place, Machine}
-use Rattle.steps.specs.Step.{Setting, ownSteps}
-use Rattle.steps.specs.Conflict.{taskAt, namesCell, declaresWritten, Conflict, AllKeep, Keeps}
+use Rattle.steps.specs.Step.{Setting}
+use Rattle.steps.specs.Conflict.{taskAt, Conflict, AllKeep}
 use Rattle.steps.proofs.Kind.{Kind, none, read, write, full}
 use Rattle.steps.proofs.Naming.{kindOf, naming, writing, kind-names, kind-writes}
 use Rattle.steps.proofs.OnCell.{stage, waited}
-use Rattle.steps.proofs.Sides.{waitSteps, endsFrom, own-length, waits-made, ends-after}
+use Rattle.steps.proofs.Sides.{waitSteps, endsFrom, waits-made, ends-after}
 use Rattle.steps.proofs.Protocol.{inv-order}
-use Rattle.steps.proofs.Protocol.Words.{Acquired, InConflict, Ended}
+use Rattle.steps.proofs.Protocol.Words.{Acquired, InConflict}
 use Rattle.steps.proofs.OwnMade.{ownMade}
 use Rattle.steps.proofs.Rows.{kinds}
 use Rattle.steps.proofs.Seen.{seen}

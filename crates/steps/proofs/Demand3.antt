@@ -1,6 +1,6 @@
 -- Demand 3 of any setting: the five statements, each from what holds along every run.
 use mathlib.Core.Path.{_≡_, refl, sym, ap, _∙_}
-use mathlib.Core.Bool.{Bool, true, false}
+use mathlib.Core.Bool.{true}
 use mathlib.Core.List.{List, []}
 use Prim.Native.Nat.{ℕ, _<_, _≤_}
 use native.Mathlib.Omega.{arith}
@@ -8,17 +8,15 @@ use borrow.Author.Tests.{leb-true}
 use lib.ListN.{length}
 use lib.Dec.{leb}
 use Rattle.layout.specs.Row.{modesSound}
-use Rattle.layout.specs.Lists.{each, all}
 use Rattle.layout.proofs.Lists.{all-keeps}
 use Rattle.steps.specs.Machine.{Machine}
-use Rattle.steps.specs.Plain.{afterTasks}
 use Rattle.steps.specs.Step.{Setting, ownSteps}
 use Rattle.steps.specs.Run.{Run, run, finished}
 use Rattle.steps.specs.History.{Made, madeBy, afterHistory}
 use Rattle.steps.specs.Conflict.{taskAt, AllKeep, TellsApart, ReadsOnly}
 use Rattle.steps.specs.Demand.{Demand3, history}
 use Rattle.steps.proofs.Advance.{progress}
-use Rattle.steps.proofs.Along.{Names, afterStep, freshRun, counted-machine, along-history, along-machine}
+use Rattle.steps.proofs.Along.{Names, freshRun, counted-machine, along-history, along-machine}
 use Rattle.steps.proofs.Cells.{CellsKept, cells-fresh, cells-step}
 use Rattle.steps.proofs.Complete.{operationsMade}
 use Rattle.steps.proofs.Invariant.{Kept, kept-fresh, kept-step}

@@ -3,28 +3,27 @@
 use mathlib.Core.Path.{_≡_, refl, sym, ap, ap₂, subst, _∙_}
 use mathlib.Core.Bool.{Bool, true, false, cond}
 use mathlib.Core.List.{List, [], _∷_, _++_, append-nil}
-use Prim.Native.Nat.{ℕ, suc, _+_, _-_, _<_, _≤_, min}
+use Prim.Native.Nat.{ℕ, suc, _+_, _-_, _<_, _≤_}
 use native.Mathlib.Nat.{not-suc-le-zero}
 use native.Mathlib.Omega.{arith}
-use native.Mathlib.Numerals.{add-one}
-use borrow.Author.Tests.{eqb-true, eqb-false, eq-eqb, ne-eqb}
-use lib.ListN.{length, getD, drop, take, length-append, List·getD-append, drop-of-length-le}
+use borrow.Author.Tests.{eqb-true, eq-eqb, ne-eqb}
+use lib.ListN.{length, drop, length-append, List·getD-append, drop-of-length-le}
 use lib.Seq.{drop-cons, getD-append-seam}
 use lib.Dec.{eqb}
 use Rattle.layout.specs.Flow.{Operation, Task}
 use Rattle.layout.specs.Row.{modesSound}
-use Rattle.steps.specs.Machine.{Machine, Place, fresh}
+use Rattle.steps.specs.Machine.{Machine, fresh}
 use Rattle.steps.specs.Step.{Setting, Try, waitWrite, waitReads, operate, endRead, zeroReads, postWrite, ownSteps, Stepped, step}
 use Rattle.steps.specs.History.{Made, made, nextOperation, madeFrom, madeBy}
 use Rattle.steps.specs.Conflict.{noTask, taskAt, operationOf, Conflict, AllKeep}
 use Rattle.steps.specs.Demand.{entry, numbered, Declared, OnlyDeclared, InOrder}
-use Rattle.steps.proofs.Cells.{made-operation, made-other, one-among, place-among}
+use Rattle.steps.proofs.Cells.{made-operation, made-other, place-among}
 use Rattle.steps.proofs.Complete.{operationsAmong, operationsMade, earlier-complete}
 use Rattle.steps.proofs.Invariant.{Kept}
 use Rattle.steps.proofs.Modes.{keeps-at}
-use Rattle.steps.proofs.OwnMade.{ownMade, made-none, own-there, own-made-past, order}
-use Rattle.steps.proofs.Places.{facing, Trying, afterOwn, Waits, on-write, on-reads, StepView, past, other, held, view}
-use Rattle.steps.proofs.Sides.{waitSteps, endsFrom, operates, operation-place}
+use Rattle.steps.proofs.OwnMade.{made-none, own-there, own-made-past, order}
+use Rattle.steps.proofs.Places.{facing, Trying, afterOwn, on-write, on-reads, StepView, past, other, held, view}
+use Rattle.steps.proofs.Sides.{waitSteps, endsFrom, operation-place}
 
 -- ---- one entry more
 

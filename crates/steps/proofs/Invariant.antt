@@ -3,25 +3,21 @@
 use mathlib.Core.Path.{_≡_, refl, sym, ap, subst, _∙_}
 use mathlib.Core.Bool.{Bool, true, false, cond}
 use mathlib.Core.List.{List}
-use Prim.Native.Nat.{ℕ, suc, _+_, _<_, _≤_}
-use native.Mathlib.Omega.{arith}
-use borrow.Author.Tests.{eqb-true, eqb-false, eq-eqb, ne-eqb}
+use Prim.Native.Nat.{ℕ, _+_, _<_, _≤_}
+use borrow.Author.Tests.{eqb-true}
 use lib.ListN.{length}
 use lib.Dec.{eqb}
-use Rattle.layout.specs.Flow.{Task}
 use Rattle.layout.specs.Row.{namedOnce}
-use Rattle.steps.specs.Machine.{Counter, Place, Machine, counter, place, put, fresh}
-use Rattle.steps.specs.Step.{Setting, Try, waitWrite, waitReads, operate, endRead, zeroReads, postWrite, ownSteps, moved, change, registerAll, Stepped, step}
-use Rattle.steps.specs.Conflict.{taskAt, Keeps, AllKeep, TellsApart}
-use Rattle.steps.proofs.Kind.{full}
+use Rattle.steps.specs.Machine.{Counter, Place, Machine, put, fresh}
+use Rattle.steps.specs.Step.{Setting, Try, waitWrite, waitReads, operate, endRead, zeroReads, postWrite, ownSteps, change, Stepped, step}
+use Rattle.steps.specs.Conflict.{taskAt, AllKeep, TellsApart}
 use Rattle.steps.proofs.OnCell.{on, stage, stage-start}
 use Rattle.steps.proofs.OwnMade.{made-none, own-made-past}
-use Rattle.steps.proofs.Places.{Standing, standing-fresh, standing-kept, facing, Trying, Passes, afterOwn, StepView, past, other, held, view, change-places}
+use Rattle.steps.proofs.Places.{Standing, standing-fresh, standing-kept, facing, afterOwn, StepView, past, other, held, view, change-places}
 use Rattle.steps.proofs.Protocol.{inv-start, inv-step}
-use Rattle.steps.proofs.Protocol.Words.{State, lastBefore, sumBefore}
+use Rattle.steps.proofs.Protocol.Words.{lastBefore, sumBefore}
 use Rattle.steps.proofs.Protocol.Invariant.{Inv}
-use Rattle.steps.proofs.Put.{put-here, put-other, put-each}
-use Rattle.steps.proofs.Rows.{kinds, registeredBefore, RowIs, row-arrives, row-registers, rowAfter, row-moves}
+use Rattle.steps.proofs.Rows.{kinds, RowIs, row-arrives, row-registers, rowAfter, row-moves}
 use Rattle.steps.proofs.Seen.{seen, seen-off, seen-on, below-there, allowed-there}
 
 pub record Kept (s : Setting) (m : Machine) : Type 0 where

@@ -1,5 +1,5 @@
 -- The history is all that the cells have seen: they are what its operations leave, one after another.
-use mathlib.Core.Path.{_≡_, refl, sym, ap, _∙_}
+use mathlib.Core.Path.{_≡_, refl, sym, ap}
 use mathlib.Core.List.{List, [], _∷_, _++_}
 use Prim.Native.Nat.{ℕ, _+_, _-_}
 use native.Mathlib.Omega.{arith}
@@ -8,8 +8,7 @@ use Rattle.steps.specs.Operations.{operated}
 use Rattle.steps.specs.Machine.{Machine}
 use Rattle.steps.specs.Step.{Setting, Try, waitWrite, waitReads, operate, endRead, zeroReads, postWrite, change, Stepped, step}
 use Rattle.steps.specs.History.{Made, made, nextOperation, madeBy, afterHistory}
-use Rattle.steps.specs.Conflict.{taskAt, operationOf}
-use Rattle.steps.proofs.Places.{facing, Stands, Trying, afterOwn, StepView, past, other, held, view, Waits, on-write, on-reads}
+use Rattle.steps.proofs.Places.{facing, Stands, Trying, afterOwn, StepView, past, other, held, view, on-write, on-reads}
 use Rattle.steps.proofs.Sides.{operation-place}
 use Rattle.steps.proofs.History.{adds-own, adds-none-past, adds-none-other}
 

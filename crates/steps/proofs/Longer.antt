@@ -1,5 +1,5 @@
 -- A schedule that is accepted, and is shorter than the longest, is still accepted with one worker's byte more.
-use mathlib.Core.Path.{_≡_, refl, sym, ap, _∙_}
+use mathlib.Core.Path.{_≡_, ap, _∙_}
 use mathlib.Core.List.{List, [], _∷_, _++_}
 use Prim.Native.Nat.{ℕ, _+_, _<_, _≤_}
 use native.Mathlib.Nat.{zero-add}
@@ -7,9 +7,9 @@ use native.Mathlib.Omega.{arith}
 use borrow.Author.Tests.{lt-ltb, le-leb}
 use lib.ListN.{length, getD, length-append, List·getD-append}
 use lib.Seq.{getD-append-seam}
-use lib.Dec.{ltb, leb, lit<}
+use lib.Dec.{ltb, lit<}
 use Rattle.layout.specs.Flow.{Flow}
-use Rattle.layout.specs.Refusal.{Answer, unless, firstAt}
+use Rattle.layout.specs.Refusal.{Answer, unless}
 use Rattle.layout.specs.File.{flowOf}
 use Rattle.roundtrip.proofs.Kept.{both-zero, rule-then, second-given, rule-passed, none-at, success-at}
 use Rattle.steps.specs.Answers.{plainAnswer, runAnswer, scheduleSound, byteNumber}

@@ -1,26 +1,25 @@
 -- An operation finds in every cell that its task names what the plain run has there: the task may go, so every earlier task in conflict is complete and
 -- no later one has begun.
-use mathlib.Core.Path.{_≡_, refl, sym, ap, subst, _∙_}
-use mathlib.Core.Bool.{Bool, true, false}
+use mathlib.Core.Path.{_≡_, sym, ap, subst, _∙_}
+use mathlib.Core.Bool.{true}
 use mathlib.Core.List.{List, [], _∷_}
-use Prim.Native.Nat.{ℕ, suc, _+_, _-_, _<_}
+use Prim.Native.Nat.{ℕ, _+_, _-_}
 use native.Mathlib.Omega.{arith}
-use lib.ListN.{length, getD, take, drop}
-use Rattle.layout.specs.Flow.{Operation, Task}
+use lib.ListN.{length, getD}
+use Rattle.layout.specs.Flow.{Operation}
 use Rattle.steps.specs.Machine.{Machine}
-use Rattle.steps.specs.Plain.{afterOperations, afterTasks}
-use Rattle.steps.specs.Step.{Setting, Try, waitWrite, waitReads, operate, endRead, zeroReads, postWrite, ownSteps, Stepped, step}
+use Rattle.steps.specs.Step.{Setting, Try, waitWrite, waitReads, operate, endRead, zeroReads, postWrite, Stepped}
 use Rattle.steps.specs.Run.{run}
 use Rattle.steps.specs.History.{Made, made, nextOperation, madeBy}
-use Rattle.steps.specs.Conflict.{taskAt, namesCell, AllKeep, ReadsOnly}
+use Rattle.steps.specs.Conflict.{taskAt, namesCell}
 use Rattle.steps.specs.Demand.{numbered}
 use Rattle.steps.specs.Auditor.{plainBefore}
-use Rattle.steps.proofs.Cells.{CellsKept, ordered, may-go, place-among}
+use Rattle.steps.proofs.Cells.{ordered, may-go, place-among}
 use Rattle.steps.proofs.Complete.{operationsAmong, operationsMade}
-use Rattle.steps.proofs.Demand3.{Asked, Holds, holds}
+use Rattle.steps.proofs.Demand3.{Asked, holds}
 use Rattle.steps.proofs.Invariant.{Kept}
 use Rattle.steps.proofs.OwnMade.{own-there}
-use Rattle.steps.proofs.Places.{facing, Trying, Waits, on-write, on-reads, StepView, past, other, held, view}
+use Rattle.steps.proofs.Places.{facing, Trying, StepView, past, other, held, view}
 use Rattle.steps.proofs.Scan.{plainAt}
 use Rattle.steps.proofs.Sides.{waitSteps, operation-place}
 use Rattle.steps.proofs.History.{adds-own, adds-none-past, adds-none-other}

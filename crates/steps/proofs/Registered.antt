@@ -8,9 +8,9 @@ use borrow.Author.Tests.{eqb-false, eq-eqb, ne-eqb}
 use Rattle.layout.specs.Flow.{Access, Task}
 use Rattle.layout.specs.Row.{namedOnce}
 use Rattle.steps.specs.Machine.{Counter, counter}
-use Rattle.steps.specs.Step.{writes, afterRead, registered, registerAll}
+use Rattle.steps.specs.Step.{writes, afterRead, registerAll}
 use Rattle.steps.proofs.Kind.{Kind, none, read, write}
-use Rattle.steps.proofs.Naming.{kindOf, kindBy, Where, nowhere, at-first, at-later, where-named}
+use Rattle.steps.proofs.Naming.{kindOf, Where, nowhere, at-first, at-later, where-named}
 
 -- a cell's counter after a task of a kind at the cell, whose number is given
 abbrev pub registeredAs : Kind → ℕ → Counter → Counter

@@ -1,18 +1,18 @@
 -- What a worker's private row holds: the counter that registering every access of the tasks before its place gives, and its own access of
 -- the cell once that has ended. Going past another's task registers it; ending an own access registers that one; no other step touches the row.
-use mathlib.Core.Path.{_≡_, refl, sym, ap, ap₂, subst, _∙_}
+use mathlib.Core.Path.{_≡_, refl, sym, ap, ap₂, _∙_}
 use mathlib.Core.Bool.{Bool, true, false, cond}
 use mathlib.Core.List.{List, _∷_}
-use Prim.Native.Nat.{ℕ, suc, _+_, _<_, _≤_}
+use Prim.Native.Nat.{ℕ, suc, _+_, _<_}
 use native.Mathlib.Omega.{arith}
 use native.Mathlib.Numerals.{add-one}
-use borrow.Author.Tests.{eqb-true, eqb-false, eq-eqb, ne-eqb, ltb-true, ltb-false}
+use borrow.Author.Tests.{eqb-true, eqb-false, eq-eqb, ne-eqb, ltb-false}
 use lib.ListN.{length, drop}
 use lib.Dec.{eqb, ltb}
 use Rattle.layout.specs.Flow.{Task}
 use Rattle.layout.specs.Row.{namedOnce}
-use Rattle.steps.specs.Machine.{Counter, Place, Machine, counter, place, put}
-use Rattle.steps.specs.Step.{Setting, Try, waitWrite, waitReads, operate, endRead, zeroReads, postWrite, ownSteps, afterRead, registerAll, moved, change}
+use Rattle.steps.specs.Machine.{Counter, Place, counter, place, put}
+use Rattle.steps.specs.Step.{Setting, Try, waitWrite, waitReads, operate, endRead, zeroReads, postWrite, ownSteps, afterRead, registerAll, moved}
 use Rattle.steps.specs.Conflict.{taskAt}
 use Rattle.steps.proofs.Kind.{Kind, none, read, write, full}
 use Rattle.steps.proofs.Naming.{kindOf}

@@ -1,20 +1,16 @@
 -- The machine seen from one cell is the protocol of that cell: an own step on the cell is one step of the protocol, and it is allowed where the
 -- wait passes, since the private counter is what the tasks before give; any other step is no step of the protocol.
-use mathlib.Core.Path.{_≡_, refl, sym, ap, ap₂, subst, fun-ext, _∙_}
+use mathlib.Core.Path.{_≡_, refl, sym, ap, fun-ext, _∙_}
 use mathlib.Core.Bool.{Bool, true, false, cond}
-use mathlib.Core.List.{List, _∷_}
-use Prim.Native.Nat.{ℕ, zero, suc, _+_, _<_, _≤_}
-use native.Mathlib.Omega.{arith}
+use Prim.Native.Nat.{ℕ, suc, _+_, _<_}
 use native.Mathlib.Numerals.{add-one}
-use borrow.Author.Tests.{eqb-true, eqb-false, eq-eqb, ne-eqb}
-use lib.ListN.{length, drop}
+use borrow.Author.Tests.{eqb-true, eqb-false}
 use lib.Dec.{eqb}
-use Rattle.layout.specs.Flow.{Task}
 use Rattle.layout.specs.Row.{namedOnce}
-use Rattle.steps.specs.Machine.{Counter, Place, Machine, counter, place, put}
-use Rattle.steps.specs.Step.{Setting, Try, waitWrite, waitReads, operate, endRead, zeroReads, postWrite, ownSteps, afterRead, moved, change}
+use Rattle.steps.specs.Machine.{Counter, Machine, counter}
+use Rattle.steps.specs.Step.{Setting, Try, waitWrite, waitReads, operate, endRead, zeroReads, postWrite, change}
 use Rattle.steps.specs.Conflict.{taskAt}
-use Rattle.steps.proofs.Kind.{Kind, none, read, write, full}
+use Rattle.steps.proofs.Kind.{Kind, full}
 use Rattle.steps.proofs.OnCell.{on, stage, next-on, next-off, next-step, next-below, NextOn, read-waits, read-ends, write-waits, write-waits-reads, write-zeroes, write-posts}
 use Rattle.steps.proofs.Protocol.Words.{State, Allowed, after, next, lastWriteAfter, readsAfter}
 use Rattle.steps.proofs.OwnMade.{ownMade, own-there, own-then}

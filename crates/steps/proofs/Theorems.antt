@@ -12,7 +12,7 @@ use Rattle.steps.specs.Step.{Setting}
 use Rattle.steps.specs.Run.{run, settingOf}
 use Rattle.steps.specs.Answers.{runAnswer}
 use Rattle.steps.specs.History.{afterHistory}
-use Rattle.steps.specs.Conflict.{namesCell, declaresWritten, Conflict}
+use Rattle.steps.specs.Conflict.{namesCell, declaresWritten}
 use Rattle.steps.specs.Demand.{history, numbered, OnlyDeclared, InOrder, Progress, Total, Values, Demand3}
 use Rattle.steps.specs.Auditor.{NeverEarly}
 use Rattle.steps.proofs.Accepted.{asked}

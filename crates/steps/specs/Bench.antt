@@ -4,8 +4,7 @@ use mathlib.Core.List.{List, [], _∷_, _++_}
 use Prim.Native.Nat.{ℕ}
 use lib.ListN.{replicate}
 use Rattle.layout.specs.Bytes.{padded}
-use Rattle.layout.specs.Fletcher.{Sums, fletcher}
-use Rattle.layout.specs.Flow.{Operation}
+use Rattle.layout.specs.Fletcher.{fletcher}
 use Rattle.layout.specs.File.{flowOf}
 use Rattle.steps.specs.Operations.{effect, operated}
 use Rattle.steps.specs.Run.{total}

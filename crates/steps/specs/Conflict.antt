@@ -5,7 +5,7 @@ use mathlib.Core.Bool.{Bool, true, false, _||_}
 use mathlib.Core.List.{List, []}
 use Prim.Native.Nat.{ℕ, _<_, _≤_}
 use lib.ListN.{length, getD}
-use Rattle.layout.specs.Flow.{Access, Operation, Task}
+use Rattle.layout.specs.Flow.{Operation, Task}
 use Rattle.layout.specs.Row.{names, modeOf, mayWrite, readsB, namedOnce, accessInRange}
 use Rattle.layout.specs.Lists.{all}
 use Rattle.steps.specs.Operations.{Effect}

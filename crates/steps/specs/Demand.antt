@@ -6,7 +6,7 @@ use mathlib.Core.Logic.{_↔_}
 use mathlib.Core.List.{List}
 use Prim.Native.Nat.{ℕ, _-_, _<_, _≤_}
 use lib.ListN.{length, getD, take}
-use Rattle.layout.specs.Flow.{Operation, Task}
+use Rattle.layout.specs.Flow.{Task}
 use Rattle.layout.specs.Row.{keepsModes}
 use Rattle.steps.specs.Machine.{Machine, fresh}
 use Rattle.steps.specs.Plain.{afterTasks}

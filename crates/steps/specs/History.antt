@@ -9,7 +9,7 @@ use Rattle.layout.specs.Flow.{Task}
 use Rattle.steps.specs.Operations.{operated}
 use Rattle.steps.specs.Conflict.{taskAt, operationOf}
 use Rattle.steps.specs.Machine.{Place, Machine}
-use Rattle.steps.specs.Step.{Setting, Try, waitWrite, waitReads, operate, endRead, zeroReads, postWrite, waits, ofEach, ownSteps, Stepped, step}
+use Rattle.steps.specs.Step.{Setting, Try, waitWrite, waitReads, operate, endRead, zeroReads, postWrite, waits, ofEach, ownSteps, step}
 
 -- an operation that was made: the task, from 1 in list order, and the operation's index in it, from 0
 pub record Made : Type 0 where

@@ -1,6 +1,6 @@
 -- What the stepped run keeps (01, "The steps"): the cells, the two shared numbers per cell, each worker's private row of counters,
 -- and each worker's place.
-use mathlib.Core.Bool.{Bool, cond}
+use mathlib.Core.Bool.{cond}
 use mathlib.Core.List.{List}
 use Prim.Native.Nat.{ℕ}
 use lib.Dec.{eqb}

@@ -8,7 +8,7 @@ use Rattle.layout.specs.Lists.{each, all}
 use Rattle.layout.specs.Flow.{Access, Task, Flow}
 use Rattle.steps.specs.Operations.{effect}
 use Rattle.steps.specs.Machine.{Place, Machine, fresh}
-use Rattle.steps.specs.Step.{Setting, writes, waits, ofEach, Outcome, advanced, pastLast, writeDiffers, readsDiffer, Stepped, step}
+use Rattle.steps.specs.Step.{Setting, writes, waits, ofEach, Outcome, advanced, pastLast, writeDiffers, readsDiffer, step}
 
 -- ---- the run
 

@@ -13,10 +13,12 @@ use Rattle.writer.specs.declared.WriteAnswer.{WriteAnswer}
 abbrev pub writeRefused : Rules.Answer → WriteAnswer
 writeRefused met = record { number = met .number; place = met .place; bytes = 0 }
 
+-- the answer for a number and a place that are met: 512 bytes a block, zero with a refusal
 abbrev pub writeWith : Rules.Answer → List ℕ → WriteAnswer
 writeWith met rows =
     record { number = met .number; place = met .place; bytes = told met (512 * blocksFor (rowCount rows)) }
 
+-- the writer's answer
 abbrev pub writeIs : List ℕ → ℕ → ℕ → List ℕ → WriteAnswer
 writeIs rows workers cells out = writeWith (writeAnswer rows workers cells (length out)) rows
 

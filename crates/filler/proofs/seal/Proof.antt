@@ -1,5 +1,5 @@
 -- `filler::seal` meets its contract: the sums are below 255, so each is a byte, and the two are stored at the end.
-use mathlib.Core.Path.{_≡_, ap₂, _∙_}
+use mathlib.Core.Path.{ap₂, _∙_}
 use mathlib.Core.List.{[], _∷_, _++_}
 use Prim.Native.Nat.{ℕ}
 use borrow.Author.Needs.{needs}

@@ -1,10 +1,9 @@
 -- `fletcher::add` meets its contract. The invariant: the sums, kept whole, are those of the definition once they are reduced, and
 -- they grow slowly enough to fit 32 bits over 4,096 bytes.
-use mathlib.Core.Path.{_≡_, _∙_, ap}
+use mathlib.Core.Path.{_≡_, ap}
 use Prim.Native.Nat.{_+_, _*_, _-_, _≤_}
-use native.Mathlib.Omega.{arith}
 use borrow.Author.Needs.{needs}
-use lib.ListN.{length, drop, drop-of-length-le}
+use lib.ListN.{length, drop}
 use Rattle.layout.specs.Fletcher.{Sums, sums, after}
 use Rattle.layout.proofs.Fletcher.{reduced, late-start, late-more, late-end}
 use Rattle.fletcher.proofs.add.Statement.{statement}

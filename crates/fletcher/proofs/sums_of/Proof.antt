@@ -1,9 +1,9 @@
 -- `fletcher::sums_of` meets its contract. The invariant: the sums so far, carried on over the bytes that are left, are the sums over all.
-use mathlib.Core.Path.{_≡_, _∙_, ap, sym}
-use Prim.Native.Nat.{_+_, _*_, _-_, _≤_}
+use mathlib.Core.Path.{_≡_, ap}
+use Prim.Native.Nat.{_+_, _-_, _≤_}
 use native.Mathlib.Nat.{le-refl}
 use borrow.Author.Needs.{needs}
-use lib.ListN.{length, drop, drop-of-length-le}
+use lib.ListN.{length, drop}
 use Rattle.layout.specs.Fletcher.{Sums, sums, after, fletcher}
 use Rattle.layout.proofs.Fletcher.{Small, part-more, late-end}
 use Rattle.fletcher.proofs.sums_of.Statement.{statement}

@@ -1,11 +1,11 @@
 -- `measure::access_steps` meets its contract. The invariant: the steps so far and those of the accesses left are those of all.
-use mathlib.Core.Path.{_≡_, refl, sym, ap, _∙_}
-use mathlib.Core.Bool.{Bool, true, false, cond}
+use mathlib.Core.Path.{_≡_, sym, ap, _∙_}
+use mathlib.Core.Bool.{Bool, cond}
 use mathlib.Core.Logic.{⊎-elim}
 use Prim.Native.Nat.{_+_, _*_, _≤_, _-_}
 use native.Mathlib.Omega.{arith}
 use borrow.Author.Needs.{needs}
-use lib.ListN.{length, drop, getD}
+use lib.ListN.{drop, getD}
 use Rattle.layout.specs.Row.{taskOf, accessAt}
 use Rattle.steps.specs.Run.{accessSteps}
 use Rattle.measure.proofs.Sums.{access-next, access-end}

@@ -1,13 +1,12 @@
 -- `measure::tasks_total` meets its contract. The invariant: the total so far and that of the tasks left is that of all.
-use mathlib.Core.Path.{_≡_, refl, sym, ap, _∙_}
-use mathlib.Core.List.{List}
+use mathlib.Core.Path.{_≡_, ap}
 use Prim.Native.Nat.{ℕ, _+_, _*_, _≤_, _-_}
 use native.Mathlib.Omega.{arith}
 use borrow.Author.Needs.{needs}
-use lib.ListN.{length, drop, getD}
+use lib.ListN.{drop}
 use Rattle.layout.specs.Row.{taskOf}
 use Rattle.layout.specs.File.{rowAt, tasksIn}
-use Rattle.steps.specs.Run.{accessSteps, totalOf}
+use Rattle.steps.specs.Run.{totalOf}
 use Rattle.machine.proofs.Rows.{row-there, row-fits}
 use Rattle.measure.proofs.Sums.{row-counts, task-next, task-end}
 use Rattle.measure.proofs.tasks_total.Statement.{statement}

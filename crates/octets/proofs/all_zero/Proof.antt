@@ -1,8 +1,6 @@
 -- `octets::all_zero` meets its contract. The invariant: the sum is zero exactly where the bytes passed all are.
 use mathlib.Core.Path.{_≡_, _∙_, ap}
-use mathlib.Core.Bool.{Bool, _&&_}
 use Prim.Native.Nat.{_≤_, _-_, _*_}
-use native.Mathlib.Omega.{arith}
 use borrow.Author.Needs.{needs}
 use lib.ListN.{length, take}
 use lib.Dec.{eqb}
