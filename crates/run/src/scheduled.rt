@@ -37,7 +37,7 @@ fn schedule_met(schedule: &[u8], workers: u32) -> Answer
     }
 }
 
-// The steps of a schedule, from a fresh start, and what is told of them.
+// The steps of a schedule, from a fresh start, and what is told of them. A step that does not advance is held.
 fn walk(file: &[u8], tasks: u32, workers: u32, cells: &mut [u32], schedule: &[u8]) -> RunAnswer
     requires { ⌜ Ready (now file) tasks (length (now cells)) × (workers ≤ 8) × (length (now schedule) ≤ 65536) ⌝ }
     requires { ⌜ ((i : ℕ) → i < length (now schedule) → getD (now schedule) i 0 < workers) ⌝ }
@@ -47,7 +47,6 @@ fn walk(file: &[u8], tasks: u32, workers: u32, cells: &mut [u32], schedule: &[u8
     let mut private = [[[0u32; 2]; Flow::ROOM_FOR_CELLS]; Flow::ROOM_FOR_WORKERS];
     let mut places = [[0u32; 3]; Flow::ROOM_FOR_WORKERS];
     let mut advanced: u32 = 0;
-    let mut held: u32 = 0;
     let mut i = 0;
     while i < schedule.len() {
         let w = octets::index(schedule[i]);
@@ -62,11 +61,10 @@ fn walk(file: &[u8], tasks: u32, workers: u32, cells: &mut [u32], schedule: &[u8
         );
         if let Outcome::Advanced = why {
             advanced += 1;
-        } else {
-            held += 1;
         }
         i += 1;
     }
+    let held = schedule.len() as u32 - advanced;
     let done = done_tasks(file, tasks, cells.len(), &places);
     let finished = all_past(workers, tasks, &places);
     RunAnswer {

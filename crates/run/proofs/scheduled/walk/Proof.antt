@@ -1,7 +1,8 @@
 -- `scheduled::walk` meets its contract. The invariant: the machine that the arrays stand for, run over the bytes left, gives what the whole schedule gives from a fresh start.
-use mathlib.Core.Path.{_≡_}
+use mathlib.Core.Path.{_≡_, subst}
 use mathlib.Core.Logic.{⊎-elim}
-use Prim.Native.Nat.{_-_, _≤_}
+use Prim.Native.Nat.{ℕ, _+_, _-_, _≤_}
+use native.Mathlib.Omega.{arith}
 use borrow.Author.Needs.{needs}
 use lib.ListN.{length}
 use Rattle.machine.specs.Arrays.{Arrays, arrays}
@@ -10,12 +11,12 @@ use Rattle.run.proofs.scheduled.walk.Statement.{statement}
 use Rattle.run.proofs.scheduled.walk.Tie as tie
 
 abbrev Inv-loop : tie.InvT-loop
-Inv-loop file tasks workers cells₀ schedule shared₀ private₀ places₀ advanced₀ held₀ i₀ cells shared private places advanced held i =
-    (i ≤ length schedule) × (length cells ≡ length cells₀)
-    × Walking file tasks cells₀ schedule i advanced held (arrays cells shared private places)
+Inv-loop file tasks workers cells₀ schedule shared₀ private₀ places₀ advanced₀ i₀ cells shared private places advanced i =
+    (i ≤ length schedule) × (length cells ≡ length cells₀) × (advanced ≤ i)
+    × Walking file tasks cells₀ schedule i advanced (i - advanced) (arrays cells shared private places)
 
 abbrev μ-loop : tie.MeasureT-loop
-μ-loop file tasks workers cells₀ schedule shared₀ private₀ places₀ advanced₀ held₀ i₀ cells shared private places advanced held i = length schedule - i
+μ-loop file tasks workers cells₀ schedule shared₀ private₀ places₀ advanced₀ i₀ cells shared private places advanced i = length schedule - i
 
 -- what a step leaves
 abbrev after : tie.After-step Inv-loop μ-loop → Arrays
@@ -26,43 +27,48 @@ after c =
 loop-holds : tie.Need-loop-holds Inv-loop μ-loop
 loop-holds c =
     let a = c .before .before .before .args in
-    (search needs, search needs, walk-begun (a .file .now) (a .tasks) (a .cells .now) (a .schedule .now) (c .before .before .before .pre .0 .0))
+    (search needs, search needs, search needs, walk-begun (a .file .now) (a .tasks) (a .cells .now) (a .schedule .now) (c .before .before .before .pre .0 .0))
 
 step-requires : tie.Need-step-requires Inv-loop μ-loop
 step-requires c κs =
     let start = c .before .before .before .before .before .before .before .before .before .before .before in
     let a = start .args in
-    step-ready (a .file .now) (a .tasks) (c .before .before .before .before .before .before .before .loop .inv .2) (c .before .before .before .before .before .before .loop-test .taken) (a .workers) _ (start .pre .0 .1) (start .pre .0 .2) (start .pre .1)
+    step-ready (a .file .now) (a .tasks) (c .before .before .before .before .before .before .before .loop .inv .3) (c .before .before .before .before .before .before .loop-test .taken) (a .workers) _ (start .pre .0 .1) (start .pre .0 .2) (start .pre .1)
     (c .before .before .before .before .index .ensures .0)
 
 loop-again : tie.Need-loop-again Inv-loop μ-loop
 loop-again c =
     let a = c .before .before .before .before .before .before .before .before .before .before .before .before .before .before .before .args in
-    let walking = c .before .before .before .before .before .before .before .before .before .before .before .loop .inv .2 in
+    let walking = c .before .before .before .before .before .before .before .before .before .before .before .loop .inv .3 in
     let more = c .before .before .before .before .before .before .before .before .before .before .loop-test .taken in
     let v = c .before .before .before .before .before .before .before .before .index .result in
     let named = c .before .before .before .before .before .before .before .before .index .ensures .0 in
     let step = c .before .before .before in
+    let held = c .before .before .before .before .before .before .before .before .before .before .before .loop .i + 1 - c .match .advanced in
+    let fits = c .before .before .before .before .before .before .before .before .before .before .before .loop .inv .2 in
     ⊎-elim
-    (λ w. (search needs, search needs, advance-walked (a .file .now) (a .tasks) walking more v named (after step) (step .step .result) (c .match .advanced) (c .match .held) (w .1 .given .1) (step .step .ensures) (w .2) (w .3)))
-    (λ w. (search needs, search needs, hold-walked (a .file .now) (a .tasks) walking more v named (after step) (step .step .result) (c .match .advanced) (c .match .held) (w .0 .keys2) (step .step .ensures) (w .1) (w .2)))
+    (λ w. (search needs, search needs, omega (arith, fits, w .2), advance-walked (a .file .now) (a .tasks) walking more v named (after step) (step .step .result) (c .match .advanced) held (w .1 .given .1) (step .step .ensures) (w .2) (omega (arith, fits, w .2))))
+    (λ w. (search needs, search needs, omega (arith, fits, w .1), hold-walked (a .file .now) (a .tasks) walking more v named (after step) (step .step .result) (c .match .advanced) held (w .0 .keys2) (step .step .ensures) (w .1) (omega (arith, fits, w .1))))
     (c .match .came)
 
 done-tasks-requires : tie.Need-done-tasks-requires Inv-loop μ-loop
 done-tasks-requires c κs =
-    let sound = c .before .before .loop .inv .2 .sound in
+    let sound = c .before .before .loop .inv .3 .sound in
     (sound .ready, sound .standing, sound .places-size)
 
 returns : tie.Need-returns Inv-loop μ-loop
 returns c =
     let a = c .before .before .before .before .before .before .before .before .before .args in
-    walk-ended (a .file .now) (a .tasks) (c .before .before .before .before .before .loop .inv .2) (c .before .before .before .before .loop-test .left) (a .workers) (c .before .before .done-tasks .result) (c .all-past .result)
-    (c .before .before .done-tasks .ensures) (c .all-past .ensures)
+    let loop = c .before .before .before .before .before .loop in
+    let over : loop .i ≡ length (a .schedule .now) = omega (arith, loop .inv .0, c .before .before .before .before .loop-test .left) in
+    walk-ended (a .file .now) (a .tasks)
+    (subst (λ (i : ℕ). Walking (a .file .now) (a .tasks) (a .cells .now) (a .schedule .now) i (loop .advanced) (i - loop .advanced) (arrays (loop .cells) (loop .shared) (loop .private) (loop .places))) over (loop .inv .3))
+    (omega arith) (a .workers) (c .before .before .done-tasks .result) (c .all-past .result) (c .before .before .done-tasks .ensures) (c .all-past .ensures)
 
 pub walk-spec : {M : Type 1} → statement M
 walk-spec =
     tie.close
     (tie.spec
     Inv-loop μ-loop loop-holds (λ c. search needs) (λ c κs. search needs) step-requires (λ c. search needs)
-    (λ c. search needs) (λ c. search needs) (λ c. search needs) (λ c. search needs) loop-again
+    (λ c. search needs) (λ c. search needs) (λ c. search needs) loop-again (λ c. search needs) (λ c. search needs)
     done-tasks-requires (λ c κs. search needs) (λ c. search needs) returns)
