@@ -7,35 +7,13 @@
 # it target/staticlib is taken. Where there is no libsflw.a only the programs
 # that need none are built: scope, vectors and errors.
 #
-# The compiler is cc, or the one that CC names.
-#
-# The library is x86-64 code. On an aarch64 machine all is built for x86-64
-# with Debian's cross compiler, which is installed if it is missing, and
-# test/run.sh runs it under an emulator.
+# test/cc.sh says with which compiler.
 set -euo pipefail
 top="$(dirname "$(dirname "$(readlink -f "${BASH_SOURCE[0]}")")")"
 folder="${1:-$top/target/staticlib}"
 to="$top/target/test"
 flags=(-std=c11 -O2 -Wall -Wextra)
-
-case "$(uname -m)" in
-x86_64)
-    cc="${CC:-cc}"
-    ;;
-aarch64)
-    cc=x86_64-linux-gnu-gcc
-    packages=(gcc-x86-64-linux-gnu libc6-dev-amd64-cross)
-    flags+=(-static)
-    if ! echo 'int main(void) { return 0; }' | "$cc" -static -x c -o /dev/null - 2>/dev/null; then
-        apt-get install -y --no-install-recommends "${packages[@]}" ||
-            { apt-get update && apt-get install -y --no-install-recommends "${packages[@]}"; }
-    fi
-    ;;
-*)
-    echo "build.sh: x86_64 or aarch64 is needed, not $(uname -m)" >&2
-    exit 2
-    ;;
-esac
+cc="$top/test/cc.sh"
 
 if [ -e "$folder/sflw.h" ]; then
     flags+=(-I "$folder")

@@ -3,8 +3,7 @@
 #
 #     test/run.sh NAME [WORDS..]
 #
-# On an aarch64 machine it runs under the emulator that the Rattle kit ships,
-# where a time that is measured says nothing.
+# test/start.sh says how it is run.
 set -euo pipefail
 top="$(dirname "$(dirname "$(readlink -f "${BASH_SOURCE[0]}")")")"
 case "${1-}" in
@@ -20,20 +19,4 @@ if [ ! -x "$program" ]; then
     exit 2
 fi
 shift
-case "$(uname -m)" in
-x86_64)
-    exec "$program" "$@"
-    ;;
-aarch64)
-    if ! command -v rt >/dev/null; then
-        echo "run.sh: the Rattle toolchain (rt), which has the emulator, is not found" >&2
-        exit 1
-    fi
-    kit="$(dirname "$(dirname "$(rt doc)")")"
-    exec "$kit/on/aarch64/toolchain/bin/qemu-x86_64" "$program" "$@"
-    ;;
-*)
-    echo "run.sh: x86_64 or aarch64 is needed, not $(uname -m)" >&2
-    exit 2
-    ;;
-esac
+exec "$top/test/start.sh" "$program" "$@"
