@@ -182,6 +182,10 @@ pub record ReadsAtMost (limit : ℕ) (m : Machine) : Type 0 where
   pub shared-reads : (c : ℕ) → m .shared c .reads ≤ limit
   pub private-reads : (w c : ℕ) → m .private w c .reads ≤ limit
 
+-- the counters have their sizes, and room for the reads of another step
+abbrev pub CountersFit : List (List ℕ) → List (List (List ℕ)) → Type 0
+CountersFit shared private = Shape shared private × ReadsAtMost mostReads (machineOf [] (arrays [] shared private []))
+
 -- what holds of the arrays before and after each step
 pub record Sound (file : List ℕ) (tasks : ℕ) (kept : Arrays) : Type 0 where
   pub ready : Ready file tasks (length (kept .cells))
@@ -204,6 +208,12 @@ stageAt kept w = getD (getD (kept .places) w []) 1 0
 
 abbrev pub indexAt : Arrays → ℕ → ℕ
 indexAt kept w = getD (getD (kept .places) w []) 2 0
+
+-- what an own step of the task of this number changes but for the place: the counters keep their sizes, and the machine changes as the rules say
+abbrev pub Changed : List ℕ → ℕ → ℕ → ℕ → ℕ → Arrays → Arrays → Type 0
+Changed row w number stage index before after =
+    Shape (after .shared) (after .private)
+    × (machineOf [] after ≡ change effect number (machineOf [] before) w (tryAt row stage index))
 
 -- the owner's next own step, made or held
 pub record OwnStep (row : List ℕ) (w : ℕ) (before : Arrays) (why : Outcome) (after : Arrays) : Type 0 where

@@ -13,10 +13,9 @@ ghost use mathlib.Core.List.{[]};
 ghost use Prim.Native.Nat.{_+_, _<_};
 ghost use lib.ListN.{length, getD};
 ghost use Rattle.layout.specs.Row.{accessAt};
-ghost use Rattle.steps.specs.Operations.{effect};
-ghost use Rattle.steps.specs.Step.{outcome, change as changed};
+ghost use Rattle.steps.specs.Step.{outcome};
 ghost use Rattle.layout.specs.File.{tasksIn};
-ghost use Rattle.machine.specs.Arrays.{arrays, machineOf, tryAt, Stands, Shape, RowFits, mostReads, ReadsAtMost, Sound, OwnStep, StepDone};
+ghost use Rattle.machine.specs.Arrays.{arrays, machineOf, CountersFit, Changed, tryAt, Stands, RowFits, mostReads, ReadsAtMost, Sound, OwnStep, StepDone};
 ghost use Rattle.machine.specs.Outcomes.{outcomeOf};
 
 // Whether the own step at a stage and an index is held, and why.
@@ -61,8 +60,8 @@ fn change(
     private: &mut AllCounters,
 )
     requires { ⌜ RowFits (now row) (length (now cells)) × Stands (now row) stage index × (w < 8) ⌝ }
-    requires { ⌜ Shape (now shared) (now «private») × ReadsAtMost mostReads (machineOf [] (arrays [] (now shared) (now «private») [])) ⌝ }
-    ensures { λ _. ⌜ Shape (now (shared .exit)) (now («private» .exit)) × (machineOf [] (arrays (now (cells .exit)) (now (shared .exit)) (now («private» .exit)) []) ≡ changed effect number (machineOf [] (arrays (now (cells .entry)) (now (shared .entry)) (now («private» .entry)) [])) w (tryAt (now (row .entry)) stage index)) ⌝ }
+    requires { ⌜ CountersFit (now shared) (now «private») ⌝ }
+    ensures { λ _. ⌜ Changed (now (row .entry)) w number stage index (arrays (now (cells .entry)) (now (shared .entry)) (now («private» .entry)) []) (arrays (now (cells .exit)) (now (shared .exit)) (now («private» .exit)) []) ⌝ }
 {
     if stage < 2 {
         return;
@@ -99,7 +98,7 @@ fn own_step(
 ) -> Outcome
     requires { ⌜ RowFits (now row) (length (now cells)) × (w < 8) × (length (now places) ≡ 8) × (getD (getD (now places) w []) 0 0 < 200) ⌝ }
     requires { ⌜ Stands (now row) (getD (getD (now places) w []) 1 0) (getD (getD (now places) w []) 2 0) ⌝ }
-    requires { ⌜ Shape (now shared) (now «private») × ReadsAtMost mostReads (machineOf [] (arrays [] (now shared) (now «private») [])) ⌝ }
+    requires { ⌜ CountersFit (now shared) (now «private») ⌝ }
     ensures { λ r. ⌜ OwnStep (now (row .entry)) w (arrays (now (cells .entry)) (now (shared .entry)) (now («private» .entry)) (now (places .entry))) (outcomeOf r) (arrays (now (cells .exit)) (now (shared .exit)) (now («private» .exit)) (now (places .exit))) ⌝ }
 {
     let passed = places[w][0];
