@@ -16,7 +16,7 @@ pub(crate) fn value(code: u8, k: u32, a: u32, b: u32) -> u32
         4 => std::num::wrapping_sub_u32(a, b),
         5 => b % 256 * 256 + b / 256 % 256,
         6 => { if a < b { b } else { a } }
-        _ => a,
+        _ => 0,
     }
 }
 

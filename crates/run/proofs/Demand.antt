@@ -5,8 +5,8 @@ use mathlib.Core.Bool.{Bool, true, false, cond}
 use mathlib.Core.List.{List, [], _∷_, _++_}
 use Prim.Native.Nat.{ℕ, _+_, _<_}
 use native.Mathlib.Omega.{arith}
-use borrow.Author.Tests.{leb-false}
-use lib.ListN.{length}
+use borrow.Author.Tests.{le-leb, leb-false}
+use lib.ListN.{length, length-append}
 use lib.Dec.{eqb}
 use Rattle.layout.specs.File.{flowOf}
 use Rattle.layout.proofs.Lists.{all-fails}
@@ -16,9 +16,9 @@ use Rattle.steps.specs.Plain.{afterTasks}
 use Rattle.steps.specs.Step.{Setting, Outcome, advanced, step}
 use Rattle.steps.specs.Run.{Run, counted, runFrom, run, finished}
 use Rattle.steps.specs.Answers.{plainAnswer, plainCells, runAnswer, runTold, runCells}
-use Rattle.steps.specs.Demand.{Demand3}
-use Rattle.steps.proofs.Longer.{longer-accepted}
-use Rattle.steps.proofs.Theorems.{holds, history-leaves, never-early}
+use Rattle.steps.specs.Demand.{Given, Demand3}
+use Rattle.steps.proofs.Given.{accepted-given, given-more, given-accepted}
+use Rattle.steps.proofs.Theorems.{holds, at-any-point, history-leaves, never-early}
 use Rattle.run.specs.declared.PlainAnswer.{PlainAnswer}
 use Rattle.run.specs.declared.RunAnswer.{RunAnswer}
 use Rattle.run.specs.Promises.{PlainPromise, RunPromise}
@@ -72,8 +72,11 @@ module _ (file cells schedule : List ℕ) (r : RunAnswer) (after : List ℕ) (pr
       promised .cells-after
       ∙ ap (λ (k : ℕ). cond (eqb k 0) (run (flowIn file) cells schedule .machine .cells) cells) accepted
 
+  given : Given file cells schedule
+  given = accepted-given file cells schedule accepted
+
   demand : Demand3 (flowIn file) (flowOf file .workers) cells schedule
-  demand = holds file cells schedule accepted
+  demand = holds file cells schedule given
 
   plain-taken : plainAnswer file cells .number ≡ 0
   unfolding runAnswer
@@ -105,7 +108,9 @@ taken-more : (file cells schedule : List ℕ) (r s : RunAnswer) (after s-after :
 unfolding runTold
 taken-more file cells schedule r s after s-after w promised taken room below more =
     ap (λ (a : RunAnswer). a .number) (more .answer)
-    ∙ longer-accepted file cells schedule w (accepted file cells schedule r after promised taken) room below
+    ∙ given-accepted file cells (schedule ++ w ∷ [])
+    (given-more file cells schedule w below (given file cells schedule r after promised taken))
+    (le-leb (length (schedule ++ w ∷ [])) 65536 (omega (arith, length-append schedule (w ∷ []))))
 
 -- one step more of a worker whose step advances
 advanced-more : (file cells schedule : List ℕ) (r s : RunAnswer) (after s-after : List ℕ) (w : ℕ) → RunPromise file cells schedule r after
@@ -125,14 +130,16 @@ pub run-demand : (file cells schedule : List ℕ) (r : RunAnswer) (after : List 
     → r .number ≡ 0
     → RunDemand file cells schedule r after
 run-demand file cells schedule r after promised taken =
+    let here : Given file cells schedule = given file cells schedule r after promised taken in
     let three = demand file cells schedule r after promised taken in
     let same = counted-steps file cells schedule r after promised taken in
     let says = told-finished file cells schedule r after promised taken in
     record {
       advanced-are = same;
       cells-are = stepped-cells file cells schedule r after promised taken;
-      cells-made = stepped-cells file cells schedule r after promised taken ∙ history-leaves file cells schedule (accepted file cells schedule r after promised taken);
+      cells-made = stepped-cells file cells schedule r after promised taken ∙ history-leaves file cells schedule here;
       declared = three .declared;
+      touched = λ n. at-any-point file cells schedule here n .touched;
       in-order = three .in-order;
       progress =
           λ e room.
@@ -157,5 +164,5 @@ run-demand file cells schedule r after promised taken =
                 ∙ three .values (is-finished file cells schedule r after promised taken e)
                 ∙ sym (plain-leaves file cells schedule r after promised taken p p-after plain),
           );
-      never-early = never-early file cells schedule (accepted file cells schedule r after promised taken);
+      never-early = never-early file cells schedule here;
     }

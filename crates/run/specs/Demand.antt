@@ -5,13 +5,13 @@ use mathlib.Core.Bool.{true}
 use mathlib.Core.Logic.{_↔_}
 use mathlib.Core.List.{List, [], _∷_, _++_}
 use Prim.Native.Nat.{ℕ, _+_, _<_, _≤_}
-use lib.ListN.{length}
+use lib.ListN.{length, take}
 use Rattle.layout.specs.File.{flowOf}
 use Rattle.steps.specs.Step.{Setting}
 use Rattle.steps.specs.Run.{run, settingOf, total}
 use Rattle.steps.specs.History.{afterHistory}
 use Rattle.steps.specs.Conflict.{namesCell, declaresWritten}
-use Rattle.steps.specs.Demand.{history, numbered, OnlyDeclared, InOrder}
+use Rattle.steps.specs.Demand.{history, numbered, OnlyDeclared, OnlyTouched, InOrder}
 use Rattle.steps.specs.Auditor.{NeverEarly}
 use Rattle.run.specs.declared.PlainAnswer.{PlainAnswer}
 use Rattle.run.specs.declared.RunAnswer.{RunAnswer}
@@ -28,6 +28,7 @@ pub record RunDemand (file cells schedule : List ℕ) (r : RunAnswer) (after : L
   -- a. and b. of the operations that made them, and no others did
   pub cells-made : after ≡ afterHistory (flowIn file) (history (flowIn file) cells schedule) cells
   pub declared : OnlyDeclared (flowIn file) (history (flowIn file) cells schedule)
+  pub touched : (n : ℕ) → OnlyTouched (flowIn file) (run (flowIn file) cells (take n schedule) .machine)
   pub in-order : InOrder (flowIn file) (history (flowIn file) cells schedule)
   -- c. where it answers that it has not finished, and the schedule may be longer, there is a worker that, named next, makes the count one more
   pub progress : r .finished ≡ 0 → length schedule < 65536

@@ -4,11 +4,10 @@ use mathlib.Core.Path.{_≡_, refl}
 use mathlib.Core.List.{List, [], _∷_, _++_, append-nil, append-assoc}
 use Prim.Native.Nat.{ℕ, suc, _<_}
 use native.Mathlib.Omega.{arith}
-use lib.ListN.{length, getD}
 use Rattle.steps.specs.Machine.{Machine, fresh}
 use Rattle.steps.specs.Step.{Setting, Outcome, advanced, pastLast, writeDiffers, readsDiffer, step}
-use Rattle.steps.specs.Run.{Run, counted, runFrom, run}
-use Rattle.steps.specs.History.{Made, madeBy, historyFrom}
+use Rattle.steps.specs.Run.{Run, counted, runFrom, run, Names}
+use Rattle.steps.specs.History.{Entry, madeBy, historyFrom}
 
 -- the run before any step
 abbrev pub freshRun : Setting → List ℕ → Run
@@ -17,10 +16,6 @@ freshRun s cells = record { machine = fresh (s .number 0) cells; advanced = 0; h
 -- a run after one step more, of the named worker
 abbrev pub afterStep : Setting → Run → ℕ → Run
 afterStep s before w = counted before (step s (before .machine) w .outcome) (step s (before .machine) w .machine)
-
--- each member of a schedule names a worker
-abbrev pub Names : ℕ → List ℕ → Type 0
-Names workers schedule = (i : ℕ) → i < length schedule → getD schedule i 0 < workers
 
 -- the counts aside, a run is the machine after its steps
 pub counted-machine : (before : Run) (why : Outcome) (after : Machine) → counted before why after .machine ≡ after
@@ -32,10 +27,10 @@ counted-machine before (readsDiffer c) after = refl
 
 module _ (s : Setting) (workers : ℕ) where
   -- P tells of the operations made so far and of the run that made them
-  pub along-history : (P : List Made → Run → Type 0)
-      → ((history : List Made) (before : Run) (w : ℕ) → w < workers → P history before
+  pub along-history : (P : List Entry → Run → Type 0)
+      → ((history : List Entry) (before : Run) (w : ℕ) → w < workers → P history before
       → P (history ++ madeBy s (before .machine) w) (afterStep s before w))
-      → (history : List Made) (before : Run) → P history before
+      → (history : List Entry) (before : Run) → P history before
       → (schedule : List ℕ) → Names workers schedule → P (history ++ historyFrom s (before .machine) schedule) (runFrom s before schedule)
   unfolding runFrom historyFrom counted
   along-history P kept history before p [] names = rw append-nil p

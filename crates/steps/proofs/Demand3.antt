@@ -1,30 +1,32 @@
 -- Demand 3 of any setting: the five statements, each from what holds along every run.
-use mathlib.Core.Path.{_≡_, refl, sym, ap, _∙_}
+use mathlib.Core.Path.{_≡_, refl, sym, ap, subst, _∙_}
 use mathlib.Core.Bool.{true}
-use mathlib.Core.List.{List, []}
+use mathlib.Core.List.{List, [], _∷_, _++_}
 use Prim.Native.Nat.{ℕ, _<_, _≤_}
 use native.Mathlib.Omega.{arith}
 use borrow.Author.Tests.{leb-true}
-use lib.ListN.{length}
+use lib.ListN.{length, length-append}
+use lib.Seq.{getD-append-seam}
 use lib.Dec.{leb}
 use Rattle.layout.specs.Row.{modesSound}
 use Rattle.layout.proofs.Lists.{all-keeps}
 use Rattle.steps.specs.Machine.{Machine}
 use Rattle.steps.specs.Step.{Setting, ownSteps}
-use Rattle.steps.specs.Run.{Run, run, finished}
-use Rattle.steps.specs.History.{Made, madeBy, afterHistory}
+use Rattle.steps.specs.Run.{Run, run, Names, finished}
+use Rattle.steps.specs.History.{Entry, made, madeBy, afterHistory}
 use Rattle.steps.specs.Conflict.{taskAt, AllKeep, TellsApart, ReadsOnly}
-use Rattle.steps.specs.Demand.{Demand3, history}
+use Rattle.steps.specs.Demand.{entry, Declared, OnlyTouched, history, Demand3}
 use Rattle.steps.proofs.Advance.{progress}
-use Rattle.steps.proofs.Along.{Names, freshRun, counted-machine, along-history, along-machine}
+use Rattle.steps.proofs.Along.{freshRun, counted-machine, along-history, along-machine}
 use Rattle.steps.proofs.Cells.{CellsKept, cells-fresh, cells-step}
 use Rattle.steps.proofs.Complete.{operationsMade}
 use Rattle.steps.proofs.Invariant.{Kept, kept-fresh, kept-step}
 use Rattle.steps.proofs.Leaves.{leaves-on, leaves}
 use Rattle.steps.proofs.OwnMade.{made-past}
 use Rattle.steps.proofs.Sides.{own-length}
-use Rattle.steps.proofs.History.{Told, told-fresh, told-step}
+use Rattle.steps.proofs.History.{Recorded, recorded-fresh, recorded-step}
 use Rattle.steps.proofs.Total.{total-bound, finished-exactly}
+use Rattle.steps.proofs.Touching.{none-touched, touches}
 use Rattle.steps.proofs.Values.{all-complete}
 
 -- what is asked of a setting, a number of workers, starting cells and a schedule
@@ -56,9 +58,9 @@ module _ (s : Setting) (workers : ℕ) (start schedule : List ℕ) (asked : Aske
       (asked .names)
 
   -- and of the history that led to it
-  record Tells (entries : List Made) (r : Run) : Type 0 where
+  record Tells (entries : List Entry) (r : Run) : Type 0 where
     kept : Kept s (r .machine)
-    told : Told s entries (r .machine)
+    recorded : Recorded s entries (r .machine)
     left : r .machine .cells ≡ afterHistory s entries start
 
   tells : Tells (history s start schedule) (run s start schedule)
@@ -68,7 +70,7 @@ module _ (s : Setting) (workers : ℕ) (start schedule : List ℕ) (asked : Aske
       (λ entries before w h t.
       record {
         kept = rw counted-machine (kept-step s workers (length start) (asked .keep) (asked .apart) (before .machine) w (t .kept));
-        told = rw counted-machine (told-step s workers (length start) (asked .keep) (asked .modes) entries (before .machine) w (t .kept) (t .told));
+        recorded = rw counted-machine (recorded-step s workers (length start) (asked .keep) (asked .modes) entries (before .machine) w (t .kept) (t .recorded));
         left = rw counted-machine (leaves s (before .machine) w (t .kept .standing .each-worker w)
             ∙ ap (afterHistory s (madeBy s (before .machine) w)) (t .left) ∙ sym (leaves-on s entries (madeBy s (before .machine) w) start));
       })
@@ -76,7 +78,7 @@ module _ (s : Setting) (workers : ℕ) (start schedule : List ℕ) (asked : Aske
       (freshRun s start)
       (record {
         kept = kept-fresh s workers (length start) (asked .keep) (asked .apart) start;
-        told = told-fresh s workers (length start) (asked .keep) (asked .modes) start;
+        recorded = recorded-fresh s workers (length start) (asked .keep) (asked .modes) start;
         left = refl;
       })
       schedule
@@ -84,6 +86,25 @@ module _ (s : Setting) (workers : ℕ) (start schedule : List ℕ) (asked : Aske
 
   pub cells-left : run s start schedule .machine .cells ≡ afterHistory s (history s start schedule) start
   cells-left = tells .left
+
+  -- an operation that is made next is one of its task, within the modes: it stands last in the history of one step more
+  declared-next : (w : ℕ) (e : Entry) → madeBy s (run s start schedule .machine) w ≡ e ∷ [] → Declared s e
+  declared-next w e makes =
+      let before : List Entry = history s start schedule in
+      let after = recorded-step s workers (length start) (asked .keep) (asked .modes) before (run s start schedule .machine) w (tells .kept) (tells .recorded) in
+      let last : length before < length (before ++ madeBy s (run s start schedule .machine) w) =
+      rw makes (omega (arith, length-append before (e ∷ []))) in
+      subst (Declared s)
+      (ap (λ (added : List Entry). entry (before ++ added) (length before)) makes ∙ getD-append-seam before e [] (made 0 0))
+      (after .declared (length before) last)
+
+  only-touched : OnlyTouched s (run s start schedule .machine)
+  only-touched =
+      record {
+        making = λ w e makes.
+            touches s (run s start schedule .machine) w (tells .kept .standing .each-worker w) (asked .reads) e makes (declared-next w e makes);
+        making-none = λ w. none-touched s (run s start schedule .machine) w (tells .kept .standing .each-worker w);
+      }
 
   -- once all workers are past the last task, all tasks have made all of their operations
   all-made : finished workers (s .tasks) (run s start schedule .machine) ≡ true → (j : ℕ) → j < length (s .tasks)
@@ -100,8 +121,9 @@ module _ (s : Setting) (workers : ℕ) (start schedule : List ℕ) (asked : Aske
   pub demand-3 : Demand3 s workers start schedule
   demand-3 =
       record {
-        declared = tells .told .declared;
-        in-order = tells .told .in-order;
+        declared = tells .recorded .declared;
+        touched = only-touched;
+        in-order = tells .recorded .in-order;
         progress = progress s workers (length start) (asked .keep) (run s start schedule .machine) (holds .kept);
         total = record {
           at-most = total-bound s workers owned some-access start schedule (asked .names);

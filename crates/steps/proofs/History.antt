@@ -14,7 +14,7 @@ use Rattle.layout.specs.Flow.{Operation, Task}
 use Rattle.layout.specs.Row.{modesSound}
 use Rattle.steps.specs.Machine.{Machine, fresh}
 use Rattle.steps.specs.Step.{Setting, Try, waitWrite, waitReads, operate, endRead, zeroReads, postWrite, ownSteps, Stepped, step}
-use Rattle.steps.specs.History.{Made, made, nextOperation, madeFrom, madeBy}
+use Rattle.steps.specs.History.{Entry, made, nextOperation, madeFrom, madeBy}
 use Rattle.steps.specs.Conflict.{noTask, taskAt, operationOf, Conflict, AllKeep}
 use Rattle.steps.specs.Demand.{entry, numbered, Declared, OnlyDeclared, InOrder}
 use Rattle.steps.proofs.Cells.{made-operation, made-other, place-among}
@@ -27,7 +27,7 @@ use Rattle.steps.proofs.Sides.{waitSteps, endsFrom, operation-place}
 
 -- ---- one entry more
 
-module _ (entries : List Made) (e : Made) where
+module _ (entries : List Entry) (e : Entry) where
   entry-before : (k : ℕ) → k < length entries → entry (entries ++ (e ∷ [])) k ≡ entry entries k
   entry-before k h = List·getD-append entries (e ∷ []) (made 0 0) k h
 
@@ -55,20 +55,20 @@ adds-none-other s m w h not-own =
     rw (drop-cons (s .tasks) (m .places w .passed) noTask h, ne-eqb (facing s m w .owner) w not-own)
 
 -- every operation made stands in the history
-pub record There (s : Setting) (entries : List Made) (m : Machine) : Type 0 where
+pub record There (s : Setting) (entries : List Entry) (m : Machine) : Type 0 where
   pub stands : (j i : ℕ) → j < length (s .tasks) → i < operationsMade (s .tasks) (m .places) j
       → (k : ℕ) × (k < length entries) × (entry entries k ≡ made (j + 1) i)
 
--- what is told of a history and the machine that it led to
-pub record Told (s : Setting) (entries : List Made) (m : Machine) : Type 0 where
+-- what holds of a history and the machine that it led to
+pub record Recorded (s : Setting) (entries : List Entry) (m : Machine) : Type 0 where
   pub there : There s entries m
   pub declared : OnlyDeclared s entries
   pub in-order : InOrder s entries
 
 module _ (s : Setting) (workers cells : ℕ) (keep : AllKeep workers cells (s .tasks))
     (modes : (i : ℕ) → i < length (s .tasks) → modesSound (taskAt (s .tasks) i) ≡ true) where
-  pub told-fresh : (start : List ℕ) → Told s [] (fresh (s .number 0) start)
-  told-fresh start =
+  pub recorded-fresh : (start : List ℕ) → Recorded s [] (fresh (s .number 0) start)
+  recorded-fresh start =
       record {
         there = record {
           stands = λ j i h l. absurd (omega (arith, made-none (length (ownSteps (taskAt (s .tasks) j))) j));
@@ -78,10 +78,10 @@ module _ (s : Setting) (workers cells : ℕ) (keep : AllKeep workers cells (s .t
       }
 
   -- a step that makes no operation
-  told-same : (entries : List Made) (m after : Machine) → Told s entries m
+  recorded-same : (entries : List Entry) (m after : Machine) → Recorded s entries m
       → ((j : ℕ) → operationsMade (s .tasks) (after .places) j ≡ operationsMade (s .tasks) (m .places) j)
-      → Told s (entries ++ []) after
-  told-same entries m after t same =
+      → Recorded s (entries ++ []) after
+  recorded-same entries m after t same =
       rw append-nil
       (record {
         there = record { stands = λ j i h l. t .there .stands j i h (omega (arith, same j)) };
@@ -90,9 +90,9 @@ module _ (s : Setting) (workers cells : ℕ) (keep : AllKeep workers cells (s .t
       })
 
   -- a step that makes one
-  told-more : (entries : List Made) (m : Machine) (w : ℕ) → Kept s m → Told s entries m → {o : Operation} → Trying s m w (operate o)
-      → Told s (entries ++ (made (m .places w .passed + 1) (m .places w .made - waitSteps (facing s m w)) ∷ [])) (afterOwn s m w (operate o))
-  told-more entries m w k t {o} trying =
+  recorded-more : (entries : List Entry) (m : Machine) (w : ℕ) → Kept s m → Recorded s entries m → {o : Operation} → Trying s m w (operate o)
+      → Recorded s (entries ++ (made (m .places w .passed + 1) (m .places w .made - waitSteps (facing s m w)) ∷ [])) (afterOwn s m w (operate o))
+  recorded-more entries m w k t {o} trying =
       record { there = record { stands = stands-now }; declared = declared-now; in-order = in-order-now }
     where
       p : ℕ
@@ -104,10 +104,10 @@ module _ (s : Setting) (workers cells : ℕ) (keep : AllKeep workers cells (s .t
       index : ℕ
       index = m .places w .made - waitSteps task
 
-      e : Made
+      e : Entry
       e = made (p + 1) index
 
-      now : List Made
+      now : List Entry
       now = entries ++ (e ∷ [])
 
       at : (waitSteps task ≤ m .places w .made) × (m .places w .made < endsFrom task) × (o ≡ operationOf task index)
@@ -124,7 +124,7 @@ module _ (s : Setting) (workers cells : ℕ) (keep : AllKeep workers cells (s .t
       back = omega arith
 
       -- an entry of the longer history
-      entry-of : (P : ℕ → Made → Type 0) → ((i : ℕ) → i < length entries → P i (entry entries i)) → P (length entries) e
+      entry-of : (P : ℕ → Entry → Type 0) → ((i : ℕ) → i < length entries → P i (entry entries i)) → P (length entries) e
           → (i : ℕ) → i < length now → P i (entry now i)
       entry-of P old new i h =
           order i (length entries) (λ l. subst (P i) (sym (entry-before entries e i l)) (old i l))
@@ -179,32 +179,32 @@ module _ (s : Setting) (workers cells : ℕ) (keep : AllKeep workers cells (s .t
           (old .0, old .1, entry-before entries e (old .0) (old .1) ∙ old .2 ∙ ap (λ (n : ℕ). made n i) up))
 
   -- no operation is added, and as many are made
-  quiet : (entries : List Made) (m after : Machine) (w : ℕ) → Told s entries m → madeBy s m w ≡ []
+  quiet : (entries : List Entry) (m after : Machine) (w : ℕ) → Recorded s entries m → madeBy s m w ≡ []
       → ((j : ℕ) → operationsMade (s .tasks) (after .places) j ≡ operationsMade (s .tasks) (m .places) j)
-      → Told s (entries ++ madeBy s m w) after
-  quiet entries m after w t none same = subst (λ (added : List Made). Told s (entries ++ added) after) (sym none) (told-same entries m after t same)
+      → Recorded s (entries ++ madeBy s m w) after
+  quiet entries m after w t none same = subst (λ (added : List Entry). Recorded s (entries ++ added) after) (sym none) (recorded-same entries m after t same)
 
-  own-told : (entries : List Made) (m : Machine) (w : ℕ) → Kept s m → Told s entries m → (try : Try) → Trying s m w try
-      → Told s (entries ++ madeBy s m w) (afterOwn s m w try)
+  own-recorded : (entries : List Entry) (m : Machine) (w : ℕ) → Kept s m → Recorded s entries m → (try : Try) → Trying s m w try
+      → Recorded s (entries ++ madeBy s m w) (afterOwn s m w try)
   unfolding nextOperation
-  own-told entries m w k t (waitWrite c) trying = quiet entries m _ w t (adds-own s m w trying) (made-other s m w trying refl)
-  own-told entries m w k t (waitReads c) trying = quiet entries m _ w t (adds-own s m w trying) (made-other s m w trying refl)
-  own-told entries m w k t (operate o) trying =
-      subst (λ (added : List Made). Told s (entries ++ added) (afterOwn s m w (operate o))) (sym (adds-own s m w trying))
-      (told-more entries m w k t trying)
-  own-told entries m w k t (endRead c) trying = quiet entries m _ w t (adds-own s m w trying) (made-other s m w trying refl)
-  own-told entries m w k t (zeroReads c) trying = quiet entries m _ w t (adds-own s m w trying) (made-other s m w trying refl)
-  own-told entries m w k t (postWrite c) trying = quiet entries m _ w t (adds-own s m w trying) (made-other s m w trying refl)
+  own-recorded entries m w k t (waitWrite c) trying = quiet entries m _ w t (adds-own s m w trying) (made-other s m w trying refl)
+  own-recorded entries m w k t (waitReads c) trying = quiet entries m _ w t (adds-own s m w trying) (made-other s m w trying refl)
+  own-recorded entries m w k t (operate o) trying =
+      subst (λ (added : List Entry). Recorded s (entries ++ added) (afterOwn s m w (operate o))) (sym (adds-own s m w trying))
+      (recorded-more entries m w k t trying)
+  own-recorded entries m w k t (endRead c) trying = quiet entries m _ w t (adds-own s m w trying) (made-other s m w trying refl)
+  own-recorded entries m w k t (zeroReads c) trying = quiet entries m _ w t (adds-own s m w trying) (made-other s m w trying refl)
+  own-recorded entries m w k t (postWrite c) trying = quiet entries m _ w t (adds-own s m w trying) (made-other s m w trying refl)
 
-  pub told-step : (entries : List Made) (m : Machine) (w : ℕ) → Kept s m → Told s entries m → Told s (entries ++ madeBy s m w) (step s m w .machine)
+  pub recorded-step : (entries : List Entry) (m : Machine) (w : ℕ) → Kept s m → Recorded s entries m → Recorded s (entries ++ madeBy s m w) (step s m w .machine)
   unfolding nextOperation
-  told-step entries m w k t = go (view s m w (k .standing .each-worker w))
+  recorded-step entries m w k t = go (view s m w (k .standing .each-worker w))
     where
-      go : {r : Stepped} → StepView s m w r → Told s (entries ++ madeBy s m w) (r .machine)
+      go : {r : Stepped} → StepView s m w r → Recorded s (entries ++ madeBy s m w) (r .machine)
       go (past e) = quiet entries m m w t (adds-none-past s m w e) (λ j. refl)
       go (other h not-own none) =
           quiet entries m _ w t (adds-none-other s m w h not-own)
           (λ j. ap (operationsAmong (taskAt (s .tasks) j)) (own-made-past (s .tasks) (m .places) w not-own none j))
       go (held trying e (on-write p)) = quiet entries m m w t (adds-own s m w trying) (λ j. refl)
       go (held trying e (on-reads p)) = quiet entries m m w t (adds-own s m w trying) (λ j. refl)
-      go (StepView.made {try} trying e passes) = own-told entries m w k t try trying
+      go (StepView.made {try} trying e passes) = own-recorded entries m w k t try trying

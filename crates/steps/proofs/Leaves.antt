@@ -7,12 +7,12 @@ use Rattle.layout.specs.Flow.{Operation}
 use Rattle.steps.specs.Operations.{operated}
 use Rattle.steps.specs.Machine.{Machine}
 use Rattle.steps.specs.Step.{Setting, Try, waitWrite, waitReads, operate, endRead, zeroReads, postWrite, change, Stepped, step}
-use Rattle.steps.specs.History.{Made, made, nextOperation, madeBy, afterHistory}
+use Rattle.steps.specs.History.{Entry, made, nextOperation, madeBy, afterHistory}
 use Rattle.steps.proofs.Places.{facing, Stands, Trying, afterOwn, StepView, past, other, held, view, on-write, on-reads}
 use Rattle.steps.proofs.Sides.{operation-place}
 use Rattle.steps.proofs.History.{adds-own, adds-none-past, adds-none-other}
 
-pub leaves-on : (s : Setting) (before after : List Made) (cells : List ℕ)
+pub leaves-on : (s : Setting) (before after : List Entry) (cells : List ℕ)
     → afterHistory s (before ++ after) cells ≡ afterHistory s after (afterHistory s before cells)
 unfolding afterHistory
 leaves-on s [] after cells = refl
@@ -22,7 +22,7 @@ module _ (s : Setting) (m : Machine) (w : ℕ) where
   -- a step that makes no operation leaves the cells
   quiet : madeBy s m w ≡ [] → m .cells ≡ afterHistory s (madeBy s m w) (m .cells)
   unfolding afterHistory
-  quiet none = ap (λ (entries : List Made). afterHistory s entries (m .cells)) (sym none)
+  quiet none = ap (λ (entries : List Entry). afterHistory s entries (m .cells)) (sym none)
 
   own-leaves : (try : Try) → Trying s m w try → afterOwn s m w try .cells ≡ afterHistory s (madeBy s m w) (m .cells)
   unfolding change nextOperation afterHistory

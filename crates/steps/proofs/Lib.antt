@@ -7,11 +7,11 @@ pub mod Cells
 pub mod Complete
 pub mod Demand3
 pub mod Errors
+pub mod Given
 pub mod History
 pub mod Invariant
 pub mod Kind
 pub mod Leaves
-pub mod Longer
 pub mod Modes
 pub mod Named
 pub mod Naming
@@ -32,4 +32,5 @@ pub mod Sides
 pub mod Sums
 pub mod Theorems
 pub mod Total
+pub mod Touching
 pub mod Values

@@ -1,7 +1,7 @@
--- Where all operations of a task keep to the modes, each does after those before it. The check goes through them with the latest first; whether a
+-- What an operation that keeps to the modes writes and reads. Where all operations of a task keep to the modes, each does after those before it: the check goes through them with the latest first; whether a
 -- cell has been written is the same in either order.
 use mathlib.Core.Path.{_≡_, refl, sym, ap₂, _∙_}
-use mathlib.Core.Bool.{Bool, true, false, not, _&&_, _||_}
+use mathlib.Core.Bool.{Bool, true, false, not, _&&_, _||_, false≢true}
 use mathlib.Core.List.{List, [], _∷_}
 use Prim.Native.Nat.{ℕ, zero, suc, _<_}
 use native.Mathlib.Nat.{not-suc-le-zero, le-of-suc-le-suc}
@@ -12,6 +12,38 @@ use Rattle.layout.specs.Lists.{any}
 use Rattle.layout.specs.Row.{written, keepsModes, allKeepModes, modesSound, mayWrite, mayRead, modeOf, readsA, readsB}
 use Rattle.layout.proofs.Lists.{and-left, and-right}
 use Rattle.steps.specs.Conflict.{operationOf, noOperation}
+
+-- ---- what it writes and reads
+
+-- a test that is asked where something is read
+asked-where : (reads may : Bool) → (not reads || may) ≡ true → reads ≡ true → may ≡ true
+asked-where true may h e = h
+asked-where false may h e = absurd (false≢true e)
+
+module _ (accesses : List Access) (earlier : List Operation) (o : Operation) (h : keepsModes accesses earlier o ≡ true) where
+  abbrev may-write : Bool
+  may-write = mayWrite (modeOf accesses (o .a))
+
+  abbrev may-read : ℕ → Bool
+  may-read cell = mayRead (modeOf accesses cell) (written earlier cell)
+
+  first-two : (may-write && (not (readsA (o .code)) || may-read (o .a))) ≡ true
+  unfolding keepsModes
+  first-two = and-left (may-write && (not (readsA (o .code)) || may-read (o .a))) (not (readsB (o .code)) || may-read (o .b)) h
+
+  pub keeps-writes : mayWrite (modeOf accesses (o .a)) ≡ true
+  keeps-writes = and-left may-write (not (readsA (o .code)) || may-read (o .a)) first-two
+
+  pub keeps-reads-a : readsA (o .code) ≡ true → mayRead (modeOf accesses (o .a)) (written earlier (o .a)) ≡ true
+  keeps-reads-a = asked-where (readsA (o .code)) (may-read (o .a)) (and-right may-write (not (readsA (o .code)) || may-read (o .a)) first-two)
+
+  pub keeps-reads-b : readsB (o .code) ≡ true → mayRead (modeOf accesses (o .b)) (written earlier (o .b)) ≡ true
+  unfolding keepsModes
+  keeps-reads-b =
+      asked-where (readsB (o .code)) (may-read (o .b))
+      (and-right (may-write && (not (readsA (o .code)) || may-read (o .a))) (not (readsB (o .code)) || may-read (o .b)) h)
+
+-- ---- each after those before it
 
 -- a test of any of a list, and of those before it
 or-swap : (x y z : Bool) → (y || (x || z)) ≡ ((x || y) || z)

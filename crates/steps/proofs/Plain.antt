@@ -1,6 +1,6 @@
 -- An operation makes the same of cells that hold the same where it reads them, the plain run keeps the number of cells, and one
 -- operation or one task more acts on what the ones before it left: each operation replaces one cell of the list that it is handed.
-use mathlib.Core.Path.{_≡_, refl, sym, _∙_}
+use mathlib.Core.Path.{_≡_, refl, sym, ap, _∙_}
 use mathlib.Core.Bool.{Bool, true, false}
 use mathlib.Core.List.{List, [], _∷_, _++_}
 use Prim.Native.Nat.{ℕ, _<_}
@@ -9,7 +9,7 @@ use lib.ListN.{length, getD, length-set}
 use lib.Seq.{getD-set-same, getD-set-other}
 use lib.Dec.{eqb}
 use Rattle.layout.specs.Flow.{Operation, Task}
-use Rattle.layout.specs.Row.{readsB}
+use Rattle.layout.specs.Row.{readsA, readsB}
 use Rattle.steps.specs.Operations.{Effect, operated}
 use Rattle.steps.specs.Plain.{afterOperations, afterTasks}
 use Rattle.steps.specs.Conflict.{ReadsOnly}
@@ -19,6 +19,15 @@ either-way true holds fails = holds refl
 either-way false holds fails = fails refl
 
 module _ (does : Effect) where
+  -- an operation makes the same of two contents of the cells that hold the same where its code reads them
+  pub value-same : (readsOnly : ReadsOnly does) (o : Operation) (cells cells′ : List ℕ)
+      → (readsA (o .code) ≡ true → getD cells (o .a) 0 ≡ getD cells′ (o .a) 0)
+      → (readsB (o .code) ≡ true → getD cells (o .b) 0 ≡ getD cells′ (o .b) 0)
+      → does o (getD cells (o .a) 0) (getD cells (o .b) 0) ≡ does o (getD cells′ (o .a) 0) (getD cells′ (o .b) 0)
+  value-same readsOnly o cells cells′ same-a same-b =
+      either-way (readsA (o .code)) (λ reads. ap (λ (a : ℕ). does o a (getD cells (o .b) 0)) (same-a reads)) (readsOnly .but-a o _ _ _)
+      ∙ either-way (readsB (o .code)) (λ reads. ap (λ (b : ℕ). does o (getD cells′ (o .a) 0) b) (same-b reads)) (readsOnly .but-b o _ _ _)
+
   -- an operation that finds the same in a, and in b if it reads it, leaves the same in every cell that held the same
   pub operated-same : (readsOnly : ReadsOnly does) (o : Operation) (cells cells′ : List ℕ) → o .a < length cells → o .a < length cells′
       → getD cells (o .a) 0 ≡ getD cells′ (o .a) 0
@@ -26,14 +35,9 @@ module _ (does : Effect) where
       → (c : ℕ) → getD cells c 0 ≡ getD cells′ c 0 → getD (operated does o cells) c 0 ≡ getD (operated does o cells′) c 0
   operated-same readsOnly o cells cells′ l l′ same-a same-b c same =
       either-way (eqb c (o .a))
-      (λ e. rw (eqb-true c (o .a) e) (getD-set-same cells (o .a) _ 0 l ∙ same-value ∙ sym (getD-set-same cells′ (o .a) _ 0 l′)))
+      (λ e. rw (eqb-true c (o .a) e) (getD-set-same cells (o .a) _ 0 l ∙ value-same readsOnly o cells cells′ (λ _. same-a) same-b ∙ sym (getD-set-same cells′ (o .a) _ 0 l′)))
       (λ e. getD-set-other cells (o .a) c _ 0 (eqb-false c (o .a) e) ∙ same
       ∙ sym (getD-set-other cells′ (o .a) c _ 0 (eqb-false c (o .a) e)))
-    where
-      same-value : does o (getD cells (o .a) 0) (getD cells (o .b) 0) ≡ does o (getD cells′ (o .a) 0) (getD cells′ (o .b) 0)
-      same-value =
-          rw same-a
-          (either-way (readsB (o .code)) (λ reads. rw (same-b reads)) (readsOnly .but-b o _ (getD cells (o .b) 0) (getD cells′ (o .b) 0)))
 
   pub operations-length : (operations : List Operation) (cells : List ℕ) → length (afterOperations does operations cells) ≡ length cells
   unfolding afterOperations

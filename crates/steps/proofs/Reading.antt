@@ -10,7 +10,7 @@ use Rattle.layout.specs.Flow.{Operation}
 use Rattle.steps.specs.Machine.{Machine}
 use Rattle.steps.specs.Step.{Setting, Try, waitWrite, waitReads, operate, endRead, zeroReads, postWrite, Stepped}
 use Rattle.steps.specs.Run.{run}
-use Rattle.steps.specs.History.{Made, made, nextOperation, madeBy}
+use Rattle.steps.specs.History.{Entry, made, nextOperation, madeBy}
 use Rattle.steps.specs.Conflict.{taskAt, namesCell}
 use Rattle.steps.specs.Demand.{numbered}
 use Rattle.steps.specs.Auditor.{plainBefore}
@@ -26,7 +26,7 @@ use Rattle.steps.proofs.History.{adds-own, adds-none-past, adds-none-ot
 use Rattle.steps.proofs.Values.{here}
 
 -- no entry is none
-some-entry : {e : Made} → _≡_ {A = List Made} [] (e ∷ []) → ⊥
+some-entry : {e : Entry} → _≡_ {A = List Entry} [] (e ∷ []) → ⊥
 some-entry {e} q = omega (arith, ap length q)
 
 -- the step that makes an operation is one at which the worker tries it
@@ -43,15 +43,15 @@ making s m w task index k e = go (view s m w (k .standing .each-worker w))
     none : madeBy s m w ≡ [] → Making s m w task index
     none q = absurd (some-entry (sym q ∙ e))
 
-    first : {x : Made} → _≡_ {A = List Made} (x ∷ []) (made task index ∷ []) → x ≡ made task index
-    first {x} q = ap (λ (entries : List Made). getD entries 0 x) q
+    first : {x : Entry} → _≡_ {A = List Entry} (x ∷ []) (made task index ∷ []) → x ≡ made task index
+    first {x} q = ap (λ (entries : List Entry). getD entries 0 x) q
 
     own : (try : Try) → Trying s m w try → Making s m w task index
     own (waitWrite c) trying = none (adds-own s m w trying)
     own (waitReads c) trying = none (adds-own s m w trying)
     own (operate o) trying =
         let q = first (sym (adds-own s m w trying) ∙ e) in
-        record { operation = o; trying = trying; task-is = ap (λ (x : Made). x .task) q; index-is = ap (λ (x : Made). x .index) q }
+        record { operation = o; trying = trying; task-is = ap (λ (x : Entry). x .task) q; index-is = ap (λ (x : Entry). x .index) q }
     own (endRead c) trying = none (adds-own s m w trying)
     own (zeroReads c) trying = none (adds-own s m w trying)
     own (postWrite c) trying = none (adds-own s m w trying)

@@ -16,9 +16,9 @@ use Rattle.layout.proofs.Lists.{all-pass, all-keeps}
 use Rattle.layout.specs.Flow.{Task}
 use Rattle.steps.specs.Machine.{Machine, Place, put}
 use Rattle.steps.specs.Step.{Setting, ownSteps, Outcome, advanced, pastLast, writeDiffers, readsDiffer, step}
-use Rattle.steps.specs.Run.{Run, counted, runFrom, run, finished, totalOf}
+use Rattle.steps.specs.Run.{Run, counted, runFrom, run, Names, finished, totalOf}
 use Rattle.steps.specs.Conflict.{taskAt}
-use Rattle.steps.proofs.Along.{freshRun, afterStep, Names, counted-machine, along}
+use Rattle.steps.proofs.Along.{freshRun, afterStep, counted-machine, along}
 use Rattle.steps.proofs.OwnSteps.{own-steps}
 use Rattle.steps.proofs.Places.{stepsOf, Stands, Standing, Held, Next, within, beyond, Moves, stays, goes, moves}
 use Rattle.steps.proofs.Places.{standing-fresh, standing-kept}

@@ -6,7 +6,7 @@ use mathlib.Core.List.{List, []}
 use Prim.Native.Nat.{ℕ, _<_, _≤_}
 use lib.ListN.{length, getD}
 use Rattle.layout.specs.Flow.{Operation, Task}
-use Rattle.layout.specs.Row.{names, modeOf, mayWrite, readsB, namedOnce, accessInRange}
+use Rattle.layout.specs.Row.{names, modeOf, mayWrite, readsA, readsB, namedOnce, accessInRange}
 use Rattle.layout.specs.Lists.{all}
 use Rattle.steps.specs.Operations.{Effect}
 
@@ -56,6 +56,7 @@ pub record AllKeep (workers cells : ℕ) (tasks : List Task) : Type 0 where
 pub record TellsApart (tasks : List Task) (number : ℕ → ℕ) : Type 0 where
   pub apart : (i j : ℕ) → i ≤ length tasks → j ≤ length tasks → number i ≡ number j → i ≡ j
 
--- what an operation does depends on cell b only where its code reads b. (Cell a is always declared, since it is written)
+-- what an operation does depends on cell a only where its code reads a, and on cell b only where it reads b
 pub record ReadsOnly (does : Effect) : Type 0 where
+  pub but-a : (o : Operation) (a a′ b : ℕ) → readsA (o .code) ≡ false → does o a b ≡ does o a′ b
   pub but-b : (o : Operation) (a b b′ : ℕ) → readsB (o .code) ≡ false → does o a b ≡ does o a b′

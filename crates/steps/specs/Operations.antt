@@ -14,7 +14,7 @@ cellSize = 2 ^ 32
 abbrev pub swapped : ℕ → ℕ
 swapped b = b % 256 * 256 + b / 256 % 256
 
--- the value that cell a becomes, by the code, out of k and of the values of a and b
+-- the value that cell a becomes, by the code, out of k and of the values of a and b (no flow with another code is accepted)
 unfoldable pub becomes : ℕ → ℕ → ℕ → ℕ → ℕ
 becomes code k a b =
     cond (eqb code 1) k
@@ -22,7 +22,7 @@ becomes code k a b =
     (cond (eqb code 3) ((a + b) % cellSize)
     (cond (eqb code 4) ((a + (cellSize - b)) % cellSize)
     (cond (eqb code 5) (swapped b)
-    (cond (eqb code 6) (max a b) a)))))
+    (cond (eqb code 6) (max a b) 0)))))
 
 -- what an operation does is handed to the runs as such a function: the new value of a, out of the values of a and b
 abbrev pub Effect : Type 0

@@ -1,8 +1,8 @@
 -- A run under a schedule, its counts, and the flow's total (01, "The steps").
 use mathlib.Core.Bool.{Bool, cond, _&&_, _||_}
 use mathlib.Core.List.{List, [], _∷_}
-use Prim.Native.Nat.{ℕ, _+_, _-_}
-use lib.ListN.{length}
+use Prim.Native.Nat.{ℕ, _+_, _-_, _<_}
+use lib.ListN.{length, getD}
 use lib.Dec.{eqb, leb, ltb}
 use Rattle.layout.specs.Lists.{each, all}
 use Rattle.layout.specs.Flow.{Access, Task, Flow}
@@ -34,6 +34,10 @@ runFrom s before (w ∷ schedule) =
 -- the schedule's steps one after another from a fresh start
 abbrev pub run : Setting → List ℕ → List ℕ → Run
 run s cells schedule = runFrom s (record { machine = fresh (s .number 0) cells; advanced = 0; held = 0 }) schedule
+
+-- a schedule of any length whose bytes each name one of so many workers
+abbrev pub Names : ℕ → List ℕ → Type 0
+Names workers schedule = (i : ℕ) → i < length schedule → getD schedule i 0 < workers
 
 -- tasks are numbered "from 1 in list order", and operations do what 01 says
 abbrev pub settingFor : List Task → Setting
