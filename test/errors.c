@@ -47,7 +47,7 @@ static const struct {
     {"the last write posted before the reads are 0", {[ORDER] = 1, [PROGRESS] = 1, [VALUES] = 1}},
     {"read and write taken as a read", {[ORDER] = 1, [VALUES] = 1}},
     {"a writer waits for the last write only", {[ORDER] = 1, [PROGRESS] = 1, [VALUES] = 1}},
-    {"the swap keeps the target's high half", {0}},
+    {"the swap keeps the target's high half", {[DECLARED] = 1}},
     {"all accesses ended in one step", {[TOTAL] = 1}},
 };
 
@@ -138,25 +138,51 @@ static uint32_t mode_of(const uint8_t *row, uint32_t cell)
     return 0;
 }
 
-/* What an operation reads is what 01's table says of its code. */
+/* The cells that a task declares readable at an operation. */
+static void list_readable(const uint8_t *row, uint32_t index, bool readable[CELLS])
+{
+    for (uint32_t cell = 0; cell < CELLS; cell++)
+        readable[cell] = mode_of(row, cell) == 1 || mode_of(row, cell) == 3;
+    for (uint32_t i = 0; i < index; i++)
+        readable[row[12 + 6 * i + 1]] = true;
+}
+
+/* By 01's table of what a code reads. */
 static bool within_modes(const uint8_t *row, uint32_t index)
 {
     const uint8_t *operation = row + 12 + 6 * index;
     uint32_t code = operation[0];
     bool readable[CELLS];
-    for (uint32_t cell = 0; cell < CELLS; cell++)
-        readable[cell] = mode_of(row, cell) == 1 || mode_of(row, cell) == 3;
-    for (uint32_t i = 0; i < index; i++)
-        readable[row[12 + 6 * i + 1]] = true;
+    list_readable(row, index, readable);
     return mode_of(row, operation[1]) >= 2 && (code == 1 || readable[operation[2]]) &&
            (code == 1 || code == 2 || code == 5 || readable[operation[1]]);
+}
+
+/* By the cells: none changes but one that the task declares written, and that
+   one is written the same where every cell not declared readable is another. */
+static bool touches_declared(const uint8_t *row, uint32_t index)
+{
+    uint32_t written = row[12 + 6 * index + 1];
+    uint32_t one[CELLS], other[CELLS];
+    bool readable[CELLS];
+    bool stay = true;
+    list_readable(row, index, readable);
+    for (uint32_t cell = 0; cell < CELLS; cell++) {
+        one[cell] = machine.cell[cell];
+        other[cell] = readable[cell] ? one[cell] : ~one[cell];
+    }
+    operate(row + 12 + 6 * index, one);
+    operate(row + 12 + 6 * index, other);
+    for (uint32_t cell = 0; cell < CELLS; cell++)
+        stay &= cell == written || one[cell] == machine.cell[cell];
+    return stay && mode_of(row, written) >= 2 && one[written] == other[written];
 }
 
 /* At an operation of a task, before it is made. Two modes are in conflict if
    both tasks name the cell and not both only read it. */
 static void test_operation(uint32_t task, uint32_t index)
 {
-    failed[DECLARED] |= !within_modes(rows[task], index);
+    failed[DECLARED] |= !within_modes(rows[task], index) || !touches_declared(rows[task], index);
     for (uint32_t i = 0; i < task; i++)
         for (uint32_t cell = 0; cell < CELLS; cell++)
             if (mode_of(rows[i], cell) * mode_of(rows[task], cell) > 1)
