@@ -8,7 +8,7 @@ use Rattle.layout.specs.Fletcher.{fletcher}
 use Rattle.layout.specs.File.{flowOf}
 use Rattle.steps.specs.Operations.{effect, operated}
 use Rattle.steps.specs.Run.{total}
-use Rattle.steps.specs.Answers.{Told, plainAnswer, plainCells, runTold, runCells}
+use Rattle.steps.specs.Answers.{Told, plainAnswer, plainCells, ran, runTold, runCells}
 
 -- ---- the file: 2 workers, 3 cells, 3 tasks
 
@@ -47,6 +47,10 @@ ranOn schedule =
     let told : Told = runTold flowA start schedule in
     told .number ∷ told .place ∷ told .advanced ∷ told .held ∷ told .done ∷ told .finished ∷ runCells flowA start schedule
 
+-- after the same steps, the shared last write of cell 0: the task that has posted it, or 0 where none has
+unfoldable pub postedOn : List ℕ → ℕ
+postedOn schedule = ran flowA start schedule .machine .shared 0 .lastWrite
+
 -- check A and check B
 unfoldable pub sumsOf : List ℕ → List ℕ
 sumsOf bytes = fletcher bytes .a ∷ fletcher bytes .b ∷ []
@@ -63,6 +67,10 @@ pub record Case : Type 0 where
 
 abbrev pub gives : List ℕ → List ℕ → Case
 gives got expected = record { got = got; expected = expected }
+
+-- "0 0 0 0 1 1"
+unfoldable pub unposted : List ℕ
+unposted = 0 ∷ 0 ∷ 0 ∷ 0 ∷ 1 ∷ 1 ∷ []
 
 -- "0 six times, 1 nine times, 0 seven times"
 unfoldable pub whole : List ℕ
@@ -81,7 +89,9 @@ bench =
     -- P4
     ∷ gives (ranOn (0 ∷ 0 ∷ 0 ∷ [])) (0 ∷ 0 ∷ 3 ∷ 0 ∷ 1 ∷ 0 ∷ 4660 ∷ 0 ∷ 5 ∷ [])
     -- P5
-    ∷ gives (ranOn (0 ∷ 0 ∷ 0 ∷ 0 ∷ 1 ∷ 1 ∷ [])) (0 ∷ 0 ∷ 5 ∷ 1 ∷ 1 ∷ 0 ∷ 4660 ∷ 0 ∷ 5 ∷ [])
+    ∷ gives (ranOn unposted) (0 ∷ 0 ∷ 5 ∷ 1 ∷ 1 ∷ 0 ∷ 4660 ∷ 0 ∷ 5 ∷ [])
+    -- and "the last write of task 1 isn't yet posted": a step of worker 0 more posts it
+    ∷ gives (postedOn unposted ∷ postedOn (unposted ++ (0 ∷ [])) ∷ []) (0 ∷ 1 ∷ [])
     -- P6
     ∷ gives (ranOn (replicate 7 0)) (0 ∷ 0 ∷ 6 ∷ 1 ∷ 1 ∷ 0 ∷ 4660 ∷ 0 ∷ 5 ∷ [])
     -- P7
