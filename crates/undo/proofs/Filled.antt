@@ -1,0 +1,69 @@
+-- A call that fills lent bytes asks its rules first and the room last. So its answer is 0 exactly where the rules are kept and the bytes fit, and
+-- then the bytes stand first; and where the rules are kept and the bytes do not fit, it is 16.
+use mathlib.Core.Path.{_≡_, sym, ap, _∙_}
+use mathlib.Core.List.{List}
+use Prim.Native.Nat.{ℕ, _<_, _≤_}
+use borrow.Author.Tests.{leb-true}
+use lib.ListN.{length, take, drop}
+use lib.Seq.{take-append-seam, drop-append-seam}
+use lib.Dec.{leb, lit<}
+use Rattle.layout.specs.Refusal.{Answer, success, refusal, unless, orElse}
+use Rattle.layout.specs.File.{lentAfter}
+use Rattle.roundtrip.proofs.Kept.{kept, both-zero}
+use Rattle.file.proofs.Order.{long-enough, too-short}
+
+-- the answer that is met: that of the rules, and 16 where less is lent than needed
+abbrev met : Answer → ℕ → List ℕ → Answer
+met rules needed lent = orElse rules (refusal (unless (leb needed (length lent)) 16) 0)
+
+-- the call's answer `r` tells what is met, with its number, and the lent bytes are then as they must be
+pub record Filled {A : Type 0} (number : A → ℕ) (tells : Answer → A) (rules : Answer) (needed : ℕ) (bytes lent : List ℕ) (r : A)
+    (after : List ℕ) : Type 0 where
+  pub answer : r ≡ tells (met rules needed lent)
+  pub numbered : (a : Answer) → number (tells a) ≡ a .number
+  pub left : after ≡ lentAfter (met rules needed lent) bytes lent
+
+module _ {A : Type 0} {number : A → ℕ} {tells : Answer → A} {rules : Answer} {needed : ℕ} {bytes lent : List ℕ} {r : A} {after : List ℕ}
+    (f : Filled number tells rules needed bytes lent r after) where
+  -- ---- for any answer that is known to be met
+
+  module _ {a : Answer} (e : a ≡ met rules needed lent) where
+    tells-it : r ≡ tells a
+    tells-it = f .answer ∙ ap tells (sym e)
+
+    leaves : after ≡ lentAfter a bytes lent
+    leaves = f .left ∙ ap (λ (b : Answer). lentAfter b bytes lent) (sym e)
+
+  -- ---- the call answers 0
+
+  module _ (none : number r ≡ 0) where
+    both : (rules .number ≡ 0) × (unless (leb needed (length lent)) 16 ≡ 0)
+    both = both-zero rules _ (sym (ap number (f .answer) ∙ f .numbered _) ∙ none)
+
+    pub rules-kept : rules .number ≡ 0
+    rules-kept = both .0
+
+    succeeds : success ≡ met rules needed lent
+    succeeds =
+        long-enough rules rules-kept needed (length lent)
+        (leb-true needed (length lent) (kept (leb needed (length lent)) 16 0 (lit< tt) (both .1) .0))
+
+    pub tells-success : r ≡ tells success
+    tells-success = tells-it succeeds
+
+    pub stands-first : take (length bytes) after ≡ bytes
+    stands-first = ap (take (length bytes)) (leaves succeeds) ∙ take-append-seam bytes _
+
+    pub rest-stays : drop (length bytes) after ≡ drop (length bytes) lent
+    rest-stays = ap (drop (length bytes)) (leaves succeeds) ∙ drop-append-seam bytes _
+
+  -- ---- the rules are kept
+
+  module _ (none : rules .number ≡ 0) where
+    pub fits : needed ≤ length lent → number r ≡ 0
+    fits room = ap number (tells-it (long-enough rules none needed (length lent) room)) ∙ f .numbered success
+
+    pub refused-16 : length lent < needed → (r ≡ tells (refusal 16 0)) × (after ≡ lent)
+    refused-16 room =
+        let short = too-short rules none needed (length lent) room in
+        (tells-it short, leaves short)
