@@ -5,7 +5,7 @@
 use mathlib.Core.Path.{_≡_, refl, sym, ap, _∙_}
 use Prim.Native.Nat.{ℕ, zero, suc, _<_}
 use native.Mathlib.Omega.{arith}
-use Rattle.steps.proofs.Protocol.Words.{Kind, none, read, write, full, next, lastBefore, sumBefore, State, start, Passes, Allowed, lastWriteAfter, readsAfter, after, Apart, Ended, Acquired, InConflict}
+use Rattle.steps.proofs.Protocol.Words.{Kind, none, read, write, full, next, lastBefore, sumBefore, State, start, StagePasses, Allowed, lastWriteAfter, readsAfter, after, Apart, Ended, Acquired, InConflict}
 use Rattle.steps.proofs.Protocol.Before.{sum-same, sum-none}
 use Rattle.steps.proofs.Protocol.Invariant.{counts, Inv, open-after-posted}
 use Rattle.steps.proofs.Protocol.Steps.{Now, wait-write, wait-reads, end-read, zero-reads, post-write}
@@ -34,7 +34,7 @@ module _ (kind : ℕ → Kind) (number : ℕ → ℕ) (n : ℕ) where
       → Allowed kind number st j → Inv kind number n (after kind number st j)
   inv-step apart st I j b h = go (kind j) (st .stage j) refl refl h
     where
-      go : (k : Kind) (s : ℕ) → kind j ≡ k → st .stage j ≡ s → s < full k → Passes kind number st j (next k s)
+      go : (k : Kind) (s : ℕ) → kind j ≡ k → st .stage j ≡ s → s < full k → StagePasses kind number st j (next k s)
           → Now kind number n st I j h (lastWriteAfter (next k s) (number (suc j)) (st .lastWrite)) (readsAfter (next k s) (st .reads))
       go none s ke se l passed = absurd (omega arith)
       go read zero ke se l passed = wait-write kind number n st I j h apart b se passed
@@ -71,7 +71,7 @@ module _ (kind : ℕ → Kind) (number : ℕ → ℕ) (n : ℕ) where
       shown : st .lastWrite ≡ number (lastBefore kind p)
       shown = I .shown ∙ ap number (sym opened)
 
-      go : (k : Kind) (s : ℕ) → kind p ≡ k → st .stage p ≡ s → s < full k → Passes kind number st p (next k s)
+      go : (k : Kind) (s : ℕ) → kind p ≡ k → st .stage p ≡ s → s < full k → StagePasses kind number st p (next k s)
       go none s ke se l = tt
       go read zero ke se l = shown
       go read (suc zero) ke se l = tt

@@ -17,19 +17,19 @@ use Rattle.steps.specs.Conflict.{noTask, taskAt, noOperation, operationO
 use Rattle.steps.proofs.Plain.{either-way, operations-length, operations-more, tasks-length, tasks-more}
 
 -- how many operations of each task have been made
-abbrev pub Progress : Type 0
-Progress = ℕ → ℕ
+abbrev pub MadeSoFar : Type 0
+MadeSoFar = ℕ → ℕ
 
 -- how many operations a task has
 abbrev pub operationsIn : List Task → ℕ → ℕ
 operationsIn tasks j = length (taskAt tasks j .operations)
 
 -- the tasks before j that write the cell are complete
-abbrev pub WritersComplete : List Task → Progress → ℕ → ℕ → Type 0
+abbrev pub WritersComplete : List Task → MadeSoFar → ℕ → ℕ → Type 0
 WritersComplete tasks made c j = (i : ℕ) → i < j → declaresWritten (taskAt tasks i) c ≡ true → made i ≡ operationsIn tasks i
 
 -- those from j up to m that do have not begun
-abbrev pub WritersIdle : List Task → Progress → ℕ → ℕ → ℕ → Type 0
+abbrev pub WritersIdle : List Task → MadeSoFar → ℕ → ℕ → ℕ → Type 0
 WritersIdle tasks made c j m = (i : ℕ) → j ≤ i → i < m → declaresWritten (taskAt tasks i) c ≡ true → made i ≡ 0
 
 module _ (does : Effect) (tasks : List Task) (start : List ℕ) where
@@ -70,12 +70,12 @@ module _ (does : Effect) (tasks : List Task) (start : List ℕ) where
   -- ---- the scan
 
   -- what the last of the first j tasks that writes a cell and has begun has left there
-  pub canon : Progress → ℕ → ℕ → ℕ
+  pub canon : MadeSoFar → ℕ → ℕ → ℕ
   canon made c zero = getD start c 0
   canon made c (suc j) = cond (declaresWritten (taskAt tasks j) c && ltb 0 (made j)) (plainCell j (made j) c) (canon made c j)
 
   -- a task that doesn't write the cell, or has not begun, is passed over
-  canon-over : (made : Progress) (c j : ℕ) → (declaresWritten (taskAt tasks j) c ≡ true → made j ≡ 0)
+  canon-over : (made : MadeSoFar) (c j : ℕ) → (declaresWritten (taskAt tasks j) c ≡ true → made j ≡ 0)
       → canon made c (suc j) ≡ canon made c j
   unfolding canon
   canon-over made c j idle = go (declaresWritten (taskAt tasks j) c) idle
@@ -85,7 +85,7 @@ module _ (does : Effect) (tasks : List Task) (start : List ℕ) where
       go true idle = rw (idle refl)
       go false idle = refl
 
-  canon-past : (made : Progress) (c j m : ℕ) → j ≤ m → WritersIdle tasks made c j m → canon made c m ≡ canon made c j
+  canon-past : (made : MadeSoFar) (c j m : ℕ) → j ≤ m → WritersIdle tasks made c j m → canon made c m ≡ canon made c j
   canon-past made c j =
       le-ind
       (λ (m : ℕ). WritersIdle tasks made c j m → canon made c m ≡ canon made c j)
@@ -97,7 +97,7 @@ module _ (does : Effect) (tasks : List Task) (start : List ℕ) where
   canon-start c j = canon-past (λ i. 0) c 0 j (omega arith) (λ i l k w. refl)
 
   -- the progress of a task that doesn't write the cell is of no account
-  pub canon-same : (made made′ : Progress) (c j : ℕ) → ((i : ℕ) → declaresWritten (taskAt tasks i) c ≡ true → made i ≡ made′ i)
+  pub canon-same : (made made′ : MadeSoFar) (c j : ℕ) → ((i : ℕ) → declaresWritten (taskAt tasks i) c ≡ true → made i ≡ made′ i)
       → canon made c j ≡ canon made′ c j
   unfolding canon
   canon-same made made′ c zero same = refl
@@ -121,7 +121,7 @@ module _ (does : Effect) (tasks : List Task) (start : List ℕ) where
         other : c ≡ operationOf (taskAt tasks j) made .a → ⊥
         other e = false≢true (sym undeclared ∙ ap (declaresWritten (taskAt tasks j)) e ∙ keeps .each-task j h .writes made l)
 
-    module _ (made : Progress) (within : (i : ℕ) → made i ≤ operationsIn tasks i) (c : ℕ) where
+    module _ (made : MadeSoFar) (within : (i : ℕ) → made i ≤ operationsIn tasks i) (c : ℕ) where
       -- a task that finds in the cell what the plain run has there leaves what the plain run does
       canon-at : (j : ℕ) → j < length tasks → canon made c j ≡ plainCell j 0 c → canon made c (suc j) ≡ plainCell j (made j) c
       unfolding canon

@@ -18,7 +18,7 @@ use Rattle.steps.specs.Plain.{afterTasks}
 use Rattle.steps.specs.Conflict.{taskAt, operationOf, namesCell, declaresWritten, Conflict, AllKeep, ReadsOnly}
 use Rattle.steps.proofs.Named.{written-named, named-below}
 use Rattle.steps.proofs.Plain.{either-way, operated-same, tasks-length}
-use Rattle.steps.proofs.Scan.{Progress, operationsIn, WritersComplete, WritersIdle, plainAt, plainCell, plain-length, plain-more, plain-end, canon, canon-start, canon-same, canon-before, canon-here}
+use Rattle.steps.proofs.Scan.{MadeSoFar, operationsIn, WritersComplete, WritersIdle, plainAt, plainCell, plain-length, plain-more, plain-end, canon, canon-start, canon-same, canon-before, canon-here}
 
 or-right : (one : Bool) {other : Bool} → other ≡ true → (one || other) ≡ true
 or-right true h = refl
@@ -26,29 +26,29 @@ or-right false h = h
 
 -- ---- the next operation of a task
 
-abbrev pub oneMore : Progress → ℕ → Progress
+abbrev pub oneMore : MadeSoFar → ℕ → MadeSoFar
 oneMore made j = put made j (suc (made j))
 
-more-here : (made : Progress) (j : ℕ) → oneMore made j j ≡ suc (made j)
+more-here : (made : MadeSoFar) (j : ℕ) → oneMore made j j ≡ suc (made j)
 more-here made j = rw (eq-eqb j j refl)
 
-more-other : (made : Progress) (j i : ℕ) → (i ≡ j → ⊥) → oneMore made j i ≡ made i
+more-other : (made : MadeSoFar) (j i : ℕ) → (i ≡ j → ⊥) → oneMore made j i ≡ made i
 more-other made j i other = rw (ne-eqb i j other)
 
 module _ (tasks : List Task) where
-  abbrev pub nextOperation : Progress → ℕ → Operation
+  abbrev pub nextOperation : MadeSoFar → ℕ → Operation
   nextOperation made j = operationOf (taskAt tasks j) (made j)
 
   -- those before a task that are in conflict with it are complete
-  abbrev pub EarlierComplete : Progress → ℕ → Type 0
+  abbrev pub EarlierComplete : MadeSoFar → ℕ → Type 0
   EarlierComplete made j = (i c : ℕ) → i < j → Conflict (taskAt tasks i) (taskAt tasks j) c → made i ≡ operationsIn tasks i
 
   -- they are for every task that has begun
-  pub record Ordered (made : Progress) : Type 0 where
+  pub record Ordered (made : MadeSoFar) : Type 0 where
     pub earlier : (j : ℕ) → j < length tasks → 0 < made j → EarlierComplete made j
 
   -- a task may make its next operation
-  pub record MayGo (made : Progress) (j : ℕ) : Type 0 where
+  pub record MayGo (made : MadeSoFar) (j : ℕ) : Type 0 where
     pub listed : j < length tasks
     pub unfinished : made j < operationsIn tasks j
     pub earlier : EarlierComplete made j
@@ -56,7 +56,7 @@ module _ (tasks : List Task) where
   pub ordered-start : Ordered (λ j. 0)
   ordered-start = record { earlier = λ j l begun. absurd (omega arith) }
 
-  module _ {made : Progress} {j : ℕ} (ordered : Ordered made) (may : MayGo made j) where
+  module _ {made : MadeSoFar} {j : ℕ} (ordered : Ordered made) (may : MayGo made j) where
     -- a later task in conflict with it has not begun, for this one isn't complete
     later-idle : (i c : ℕ) → j < i → i < length tasks → Conflict (taskAt tasks j) (taskAt tasks i) c → made i ≡ 0
     later-idle i c h l conflict =
@@ -84,7 +84,7 @@ module _ (tasks : List Task) where
 
 module _ (does : Effect) (tasks : List Task) (start : List ℕ) where
   -- each cell holds what the last begun task that writes it left there
-  pub record Canonical (made : Progress) (cells : List ℕ) : Type 0 where
+  pub record Canonical (made : MadeSoFar) (cells : List ℕ) : Type 0 where
     pub sized : length cells ≡ length start
     pub holds : (c : ℕ) → getD cells c 0 ≡ canon does tasks start made c (length tasks)
     pub within : (j : ℕ) → made j ≤ operationsIn tasks j
@@ -94,7 +94,7 @@ module _ (does : Effect) (tasks : List Task) (start : List ℕ) where
       record { sized = refl; holds = λ c. sym (canon-start does tasks start c (length tasks)); within = λ j. omega arith }
 
   module _ {workers : ℕ} (keeps : AllKeep workers (length start) tasks) where
-    pub all-complete : {made : Progress} {cells : List ℕ} → Canonical made cells
+    pub all-complete : {made : MadeSoFar} {cells : List ℕ} → Canonical made cells
         → ((j : ℕ) → j < length tasks → made j ≡ operationsIn tasks j)
         → cells ≡ afterTasks does tasks start
     all-complete {made} {cells} canonical complete =
@@ -103,7 +103,7 @@ module _ (does : Effect) (tasks : List Task) (start : List ℕ) where
         ∙ canon-before does tasks start keeps made (canonical .within) c (length tasks) (omega arith) (λ i l w. complete i l)
         ∙ rw (plain-end does tasks start))
 
-    module _ {made : Progress} {cells : List ℕ} {j : ℕ}
+    module _ {made : MadeSoFar} {cells : List ℕ} {j : ℕ}
         (canonical : Canonical made cells) (ordered : Ordered tasks made) (may : MayGo tasks made j) where
       writers-complete : (c : ℕ) → namesCell (taskAt tasks j) c ≡ true → WritersComplete tasks made c j
       writers-complete c named i h w =

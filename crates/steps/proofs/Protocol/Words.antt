@@ -65,16 +65,16 @@ abbrev pub start : (ℕ → ℕ) → State
 start number = record { stage = λ j. 0; lastWrite = number 0; reads = 0 }
 
 -- what a step of a task waits for
-abbrev pub Passes : (ℕ → Kind) → (ℕ → ℕ) → State → ℕ → Step → Type 0
-Passes kind number st j waitWrite = st .lastWrite ≡ number (lastBefore kind j)
-Passes kind number st j waitReads = st .reads ≡ readsBefore kind j
-Passes kind number st j endRead = Unit {0}
-Passes kind number st j zeroReads = Unit {0}
-Passes kind number st j postWrite = Unit {0}
-Passes kind number st j past = Unit {0}
+abbrev pub StagePasses : (ℕ → Kind) → (ℕ → ℕ) → State → ℕ → Step → Type 0
+StagePasses kind number st j waitWrite = st .lastWrite ≡ number (lastBefore kind j)
+StagePasses kind number st j waitReads = st .reads ≡ readsBefore kind j
+StagePasses kind number st j endRead = Unit {0}
+StagePasses kind number st j zeroReads = Unit {0}
+StagePasses kind number st j postWrite = Unit {0}
+StagePasses kind number st j past = Unit {0}
 
 abbrev pub Allowed : (ℕ → Kind) → (ℕ → ℕ) → State → ℕ → Type 0
-Allowed kind number st j = Passes kind number st j (next (kind j) (st .stage j))
+Allowed kind number st j = StagePasses kind number st j (next (kind j) (st .stage j))
 
 -- what a step makes of the last write, where `number` is the task's, and of the reads
 abbrev pub lastWriteAfter : Step → ℕ → ℕ → ℕ
