@@ -19,7 +19,7 @@ use Rattle.roundtrip.proofs.BlockRules.{BlockKept, block-keeps}
 use Rattle.block.specs.declared.Sizes.{Sizes}
 use Rattle.file.specs.declared.Answer.{Answer}
 use Rattle.file.specs.Answers.{answerOf}
-use Rattle.file.proofs.Whole.{Sound}
+use Rattle.file.proofs.Whole.{WholePieces}
 
 -- ---- a part that refuses, and one that doesn't
 
@@ -56,7 +56,7 @@ Stated file sizes = (sizes .tasks ≡ tasksOf file) × (sizes .workers ≡ worke
 
 -- what is met in a file of whole blocks
 pub record BlocksMet (file : List ℕ) (blocks : ℕ) (sizes : Sizes) (met : Answer) : Type 0 where
-  pub whole : Sound 512 10240 (length file) blocks
+  pub whole : WholePieces 512 10240 (length file) blocks
   pub stated : Stated file sizes
   pub found : met ≡ answerOf (fromBlocks file blocks (sizes .tasks) (sizes .workers) (sizes .cells))
 

@@ -36,7 +36,7 @@ module _ (size most bytes : ℕ) where
 
   -- ---- what the count tells
 
-  pub record Sound (count : ℕ) : Type 0 where
+  pub record WholePieces (count : ℕ) : Type 0 where
     pub sound : soundIn size most bytes ≡ true
     pub some : 1 ≤ count
     pub fits : bytes ≤ most
@@ -53,10 +53,10 @@ module _ (size most bytes : ℕ) where
           let n : bytes / size ≡ 0 = sym q ∙ z in
           absurd (omega (arith, leb-true, eqb-true, rw n at (div-add-mod' bytes size)))
 
-  pub is-sound : (count : ℕ) → count ≡ wholeIn size most bytes → (count ≡ 0 → ⊥) → Sound count
+  pub is-sound : (count : ℕ) → count ≡ wholeIn size most bytes → (count ≡ 0 → ⊥) → WholePieces count
   is-sound count e some = go (soundIn size most bytes) refl e
     where
-      go : (b : Bool) → soundIn size most bytes ≡ b → count ≡ cond b (bytes / size) 0 → Sound count
+      go : (b : Bool) → soundIn size most bytes ≡ b → count ≡ cond b (bytes / size) 0 → WholePieces count
       go false s q = absurd (some q)
       go true s q =
           let tests = simp and-iff at s in

@@ -16,7 +16,7 @@ use Rattle.layout.proofs.Modes.{each-drop, each-drop-all}
 use Rattle.steps.specs.Operations.{Effect, effect}
 use Rattle.steps.specs.Machine.{Place, Machine, place, withRow, withPlace}
 use Rattle.steps.specs.Step.{Try, waitWrite, waitReads, operate, endRead, zeroReads, postWrite, Outcome, advanced, pastLast, outcome, registerAll, change, ownSteps, moved, stepped, attempted, ownStep, otherStep, stepFrom, step}
-use Rattle.machine.specs.Arrays.{Arrays, arrays, machineOf, placeOf, tryAt, Stands, nextPlace, madeIn, madeAt, notedAll, Shape, RowFits, Ready, Standing, Sound, settingIn, passedAt, stageAt, indexAt, OwnStep, StepDone}
+use Rattle.machine.specs.Arrays.{Arrays, arrays, machineOf, placeOf, tryAt, Stands, nextPlace, madeIn, madeAt, notedAll, Shape, RowFits, Ready, Standing, Steppable, settingIn, passedAt, stageAt, indexAt, OwnStep, StepDone}
 use Rattle.machine.proofs.Places.{access-count, access-there, try-there, next-there, next-stands, none-made}
 use Rattle.machine.proofs.Machines.{stored-at, all-noted-only, row-replaced, place-stored, outcome-of, change-of}
 use Rattle.machine.proofs.Changes.{Changed}
@@ -104,7 +104,7 @@ standing-kept file tasks places w next standing h stands =
     go v l true = stands
     go v l false = standing .stands v l
 
-module _ (file : List ℕ) (tasks w : ℕ) (kept : Arrays) (sound : Sound file tasks kept) (h : w < 8) where
+module _ (file : List ℕ) (tasks w : ℕ) (kept : Arrays) (sound : Steppable file tasks kept) (h : w < 8) where
   abbrev passed : ℕ
   passed = passedAt kept w
 

@@ -187,7 +187,7 @@ abbrev pub CountersFit : List (List ℕ) → List (List (List ℕ)) → Type 0
 CountersFit shared private = Shape shared private × ReadsAtMost mostReads (machineOf [] (arrays [] shared private []))
 
 -- what holds of the arrays before and after each step
-pub record Sound (file : List ℕ) (tasks : ℕ) (kept : Arrays) : Type 0 where
+pub record Steppable (file : List ℕ) (tasks : ℕ) (kept : Arrays) : Type 0 where
   pub ready : Ready file tasks (length (kept .cells))
   pub shape : Shape (kept .shared) (kept .private)
   pub places-size : length (kept .places) ≡ mostWorkers
@@ -231,5 +231,5 @@ pub record OwnStep (row : List ℕ) (w : ℕ) (before : Arrays) (why : Outcome) 
 
 -- a step of a named worker
 pub record StepDone (file : List ℕ) (tasks w : ℕ) (before : Arrays) (why : Outcome) (after : Arrays) : Type 0 where
-  pub sound : Sound file tasks after
+  pub sound : Steppable file tasks after
   pub machine-is : stepped why (machineOf (tasksIn file tasks) after) ≡ step (settingIn file tasks) (machineOf (tasksIn file tasks) before) w

@@ -15,7 +15,7 @@ ghost use lib.ListN.{length, getD};
 ghost use Rattle.layout.specs.Row.{accessAt};
 ghost use Rattle.steps.specs.Step.{outcome};
 ghost use Rattle.layout.specs.File.{tasksIn};
-ghost use Rattle.machine.specs.Arrays.{arrays, machineOf, CountersFit, Changed, tryAt, Stands, RowFits, mostReads, ReadsAtMost, Sound, OwnStep, StepDone};
+ghost use Rattle.machine.specs.Arrays.{arrays, machineOf, CountersFit, Changed, tryAt, Stands, RowFits, mostReads, ReadsAtMost, Steppable, OwnStep, StepDone};
 ghost use Rattle.machine.specs.Outcomes.{outcomeOf};
 
 // Whether the own step at a stage and an index is held, and why.
@@ -122,7 +122,7 @@ pub fn step(
     private: &mut AllCounters,
     places: &mut Places,
 ) -> Outcome
-    requires { ⌜ Sound (now file) tasks (arrays (now cells) (now shared) (now «private») (now places)) × (w < 8) ⌝ }
+    requires { ⌜ Steppable (now file) tasks (arrays (now cells) (now shared) (now «private») (now places)) × (w < 8) ⌝ }
     requires { ⌜ ReadsAtMost mostReads (machineOf (tasksIn (now file) tasks) (arrays (now cells) (now shared) (now «private») (now places))) ⌝ }
     ensures { λ r. ⌜ StepDone (now (file .entry)) tasks w (arrays (now (cells .entry)) (now (shared .entry)) (now («private» .entry)) (now (places .entry))) (outcomeOf r) (arrays (now (cells .exit)) (now (shared .exit)) (now («private» .exit)) (now (places .exit))) ⌝ }
 {

@@ -25,7 +25,7 @@ use Rattle.machine.specs.declared.Outcome.{Outcome}
 use Rattle.machine.specs.declared.Outcome.the-variants.{Advanced, PastLast, WriteDiffers, ReadsDiffer}
 use Rattle.machine.proofs.Outcome.{the-type}
 use Rattle.machine.specs.Outcomes.{outcomeOf}
-use Rattle.machine.specs.Arrays.{counterOf, counterAt, placeOf, Arrays, arrays, machineOf, Stands, Ready, mostReads, ReadsAtMost, Sound, settingIn, StepDone}
+use Rattle.machine.specs.Arrays.{counterOf, counterAt, placeOf, Arrays, arrays, machineOf, Stands, Ready, mostReads, ReadsAtMost, Steppable, settingIn, StepDone}
 use Rattle.machine.proofs.Places.{none-made}
 use Rattle.machine.proofs.Growth.{more-reads, file-step-reads}
 use Rattle.run.specs.Promises.{Walked}
@@ -79,14 +79,14 @@ module _ (file : List ℕ) (tasks : ℕ) where
 
   -- where the loop stands: so many bytes are passed, so many steps advanced and were held
   pub record Walking (start schedule : List ℕ) (passed advanced held : ℕ) (kept : Arrays) : Type 0 where
-    pub sound : Sound file tasks kept
+    pub sound : Steppable file tasks kept
     pub reads : ReadsAtMost (4 * passed) (machineOf held-in kept)
     pub counts : advanced + held ≡ passed
     pub left : run s start schedule ≡ runFrom s (runOf kept advanced held) (drop passed schedule)
 
   -- ---- before the first byte
 
-  fresh-sound : (start : List ℕ) → Ready file tasks (length start) → Sound file tasks (freshArrays start)
+  fresh-sound : (start : List ℕ) → Ready file tasks (length start) → Steppable file tasks (freshArrays start)
   unfolding Stands
   fresh-sound start ready =
       record {
@@ -122,7 +122,7 @@ module _ (file : List ℕ) (tasks : ℕ) where
     -- the step can be taken
     pub step-ready : (workers w : ℕ) → workers ≤ 8 → length schedule ≤ 65536 → ((i : ℕ) → i < length schedule → getD schedule i 0 < workers)
         → w ≡ getD schedule passed 0
-        → (Sound file tasks kept × (w < 8)) × ReadsAtMost mostReads (machineOf held-in kept)
+        → (Steppable file tasks kept × (w < 8)) × ReadsAtMost mostReads (machineOf held-in kept)
     step-ready workers w few short names is = (
       (walking .sound, omega (arith, names passed within)),
       more-reads (4 * passed) mostReads (machineOf held-in kept) (omega arith) (walking .reads),

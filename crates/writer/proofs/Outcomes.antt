@@ -16,7 +16,7 @@ use Rattle.flow.specs.declared.Flow.{Flow}
 use Rattle.flow.proofs.Answers.{Kept}
 use Rattle.file.specs.declared.Answer.{Answer}
 use Rattle.file.specs.Answers.{answerOf}
-use Rattle.file.proofs.Whole.{Sound}
+use Rattle.file.proofs.Whole.{WholePieces}
 use Rattle.file.proofs.Order.{first-given, too-short, long-enough}
 use Rattle.file.proofs.Outcomes.{lent-kept}
 use Rattle.file.proofs.Laid.{laid, laid-is}
@@ -52,7 +52,7 @@ writeAll blocks = record { number = 0; place = 0; bytes = 512 * blocks }
 
 -- the flow is made of given rows, which are whole rows
 pub record FlowMade (rows : List ℕ) (tasks workers cells : ℕ) (flow : Flow) : Type 0 where
-  pub whole : Sound 48 9600 (length rows) tasks
+  pub whole : WholePieces 48 9600 (length rows) tasks
   pub made : Kept flow tasks workers cells
 
 pub record FlowFits (rows : List ℕ) (flow : Flow) : Type 0 where

@@ -7,7 +7,7 @@ use lib.ListN.{length}
 use Rattle.layout.specs.Refusal.{refusal}
 use Rattle.flow.specs.Made.{statedBy}
 use Rattle.flow.proofs.Answers.{within-is, outside-is}
-use Rattle.file.proofs.Whole.{Sound, unsound, is-sound}
+use Rattle.file.proofs.Whole.{WholePieces, unsound, is-sound}
 use Rattle.writer.proofs.Order.{rows-refused, sizes-refused}
 use Rattle.writer.proofs.Outcomes.{write-refused, FlowMade, flow-fits, given-refused, write-short, write-done}
 use Rattle.writer.proofs.write.Statement.{statement}
@@ -21,7 +21,7 @@ returns c =
     (c .refused .ensures)
 
 -- from here on, the rows are whole rows
-whole : (c : tie.Else1) → Sound 48 9600 (length (c .before .before .before .before .args .rows .now)) (c .before .whole-rows .result)
+whole : (c : tie.Else1) → WholePieces 48 9600 (length (c .before .before .before .before .args .rows .now)) (c .before .whole-rows .result)
 whole c = is-sound 48 9600 _ _ (c .before .whole-rows .ensures) (c .if1 .left)
 
 enum-told : tie.Need-enum-told

@@ -5,7 +5,7 @@ use native.Mathlib.Omega.{arith}
 use borrow.Author.Needs.{needs}
 use lib.ListN.{length}
 use Rattle.file.specs.Answers.{answerOf}
-use Rattle.file.proofs.Whole.{Sound, unsound, is-sound}
+use Rattle.file.proofs.Whole.{WholePieces, unsound, is-sound}
 use Rattle.file.proofs.Order.{length-refused, BlocksMet, block-refused, row-answers, rows-within}
 use Rattle.file.proofs.checking.file_met.Statement.{statement}
 use Rattle.file.proofs.checking.file_met.Tie as tie
@@ -17,7 +17,7 @@ returns c =
     ap answerOf (length-refused file (unsound 512 10240 (length file) (blocks .result) (blocks .ensures) (c .if1 .taken)))
 
 -- from here on, the file is whole blocks
-whole : (c : tie.Else1) → Sound 512 10240 (length (c .before .before .before .args .file .now)) (c .before .whole-blocks .result)
+whole : (c : tie.Else1) → WholePieces 512 10240 (length (c .before .before .before .args .file .now)) (c .before .whole-blocks .result)
 whole c = is-sound 512 10240 _ _ (c .before .whole-blocks .ensures) (c .if1 .left)
 
 sizes-of-requires : tie.Need-sizes-of-requires
