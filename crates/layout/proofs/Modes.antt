@@ -13,7 +13,7 @@ use lib.Seq.{drop-cons}
 use lib.Dec.{eqb, leb, ltb}
 use Rattle.layout.specs.Lists.{each, all, any}
 use Rattle.layout.specs.Bytes.{at, part, allZero}
-use Rattle.layout.specs.Flow.{Access, Operation, upTo}
+use Rattle.layout.specs.Flow.{Access, Operation, mostAccesses, mostOperations, upTo}
 use Rattle.layout.specs.Row.{accessAt, operationAt, spareAt, taskOf, countsSound, accessInRange, accessesSound, modeOf, names, namedOnce, zerosKept, operationSound, operationsSound, keepsModes, allKeepModes}
 use Rattle.layout.proofs.Lists.{and-false, and-left, and-right, and-both, each-length, each-at, all-keeps}
 
@@ -57,12 +57,12 @@ module _ {A : Type 0} where
 -- ---- what the rules tell of a row's bytes
 
 -- 7: at most four accesses and six operations
-pub counts-kept : (row : List ℕ) → countsSound row ≡ true → (at row 1 ≤ 4) × (at row 2 ≤ 6)
+pub counts-kept : (row : List ℕ) → countsSound row ≡ true → (at row 1 ≤ mostAccesses) × (at row 2 ≤ mostOperations)
 counts-kept row h =
-    let both = and-left (upTo 4 (at row 1) && leb (at row 2) 6) (eqb (at row 3) 0) h in
-    let first = and-left (upTo 4 (at row 1)) (leb (at row 2) 6) both in (
-      leb-true (at row 1) 4 (and-right (leb 1 (at row 1)) (leb (at row 1) 4) first),
-      leb-true (at row 2) 6 (and-right (upTo 4 (at row 1)) (leb (at row 2) 6) both),
+    let both = and-left (upTo mostAccesses (at row 1) && leb (at row 2) mostOperations) (eqb (at row 3) 0) h in
+    let first = and-left (upTo mostAccesses (at row 1)) (leb (at row 2) mostOperations) both in (
+      leb-true (at row 1) mostAccesses (and-right (leb 1 (at row 1)) (leb (at row 1) mostAccesses) first),
+      leb-true (at row 2) mostOperations (and-right (upTo mostAccesses (at row 1)) (leb (at row 2) mostOperations) both),
     )
 
 ltb-more : (n cells more : ℕ) → cells ≤ more → ltb n cells ≡ true → ltb n more ≡ true

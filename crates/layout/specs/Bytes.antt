@@ -17,6 +17,10 @@ at bytes i = getD bytes i 0
 abbrev pub word : List ℕ → ℕ → ℕ
 word bytes i = at bytes i + 256 * at bytes (i + 1)
 
+-- a two-byte number is below this
+abbrev pub wordSize : ℕ
+wordSize = 256 * 256
+
 -- a number's two bytes
 abbrev pub wordBytes : ℕ → List ℕ
 wordBytes n = n % 256 ∷ n / 256 ∷ []

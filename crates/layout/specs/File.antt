@@ -7,7 +7,7 @@ use lib.ListN.{length, drop}
 use lib.Dec.{eqb, leb}
 use Rattle.layout.specs.Lists.{each, joined}
 use Rattle.layout.specs.Bytes.{at, word, part}
-use Rattle.layout.specs.Flow.{Task, Flow}
+use Rattle.layout.specs.Flow.{Task, Flow, mostBytes}
 use Rattle.layout.specs.Refusal.{Answer, refusal, unless, orElse, firstAt}
 use Rattle.layout.specs.Row.{taskOf, rowRefusal}
 use Rattle.layout.specs.Block.{blockRefusal}
@@ -44,7 +44,7 @@ cellsOf file = at file 13
 
 -- 1: "file length 0, over 10,240 or no multiple of 512"
 abbrev pub lengthSound : ℕ → Bool
-lengthSound bytes = leb 1 bytes && leb bytes 10240 && eqb (bytes % 512) 0
+lengthSound bytes = leb 1 bytes && leb bytes mostBytes && eqb (bytes % 512) 0
 
 -- 2 to 5 on one block
 abbrev pub blockNumber : List ℕ → ℕ → ℕ

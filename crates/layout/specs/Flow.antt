@@ -1,7 +1,7 @@
 -- A flow as a value (01, "What is built"), on which the runs and their theorems are stated, and its limits.
 use mathlib.Core.Bool.{Bool, _&&_}
 use mathlib.Core.List.{List}
-use Prim.Native.Nat.{ℕ}
+use Prim.Native.Nat.{ℕ, _*_}
 use lib.Dec.{leb}
 
 -- a cell that a task names, and the mode under which it does: 1 read, 2 write only, 3 read and write
@@ -28,7 +28,9 @@ pub record Flow : Type 0 where
   pub cells : ℕ
   pub tasks : List Task
 
--- the limits of a flow and of a task
+-- ---- the limits
+
+-- "A flow has 1 to 200 tasks, 1 to 8 workers and 1 to 32 cells"
 abbrev pub mostTasks : ℕ
 mostTasks = 200
 
@@ -45,10 +47,21 @@ mostAccesses = 4
 abbrev pub mostOperations : ℕ
 mostOperations = 6
 
+-- "blocks of 512 bytes", "1 to 20 blocks"; so the longest file has 10,240 bytes
+abbrev pub mostBlocks : ℕ
+mostBlocks = 20
+
+abbrev pub mostBytes : ℕ
+mostBytes = 512 * mostBlocks
+
+-- the longest schedule: one of "over 65,536 bytes" is refused
+abbrev pub mostSchedule : ℕ
+mostSchedule = 65536
+
 -- a number is at least 1 and at most the limit
 abbrev pub upTo : ℕ → ℕ → Bool
 upTo limit n = leb 1 n && leb n limit
 
--- "A flow has 1 to 200 tasks, 1 to 8 workers and 1 to 32 cells"
+-- the sizes of a flow are within their limits
 abbrev pub inRange : ℕ → ℕ → ℕ → Bool
 inRange tasks workers cells = upTo mostTasks tasks && upTo mostWorkers workers && upTo mostCells cells
