@@ -2,7 +2,7 @@
 ghost use mathlib.Core.Path.{_≡_};
 ghost use Prim.Native.Nat.{_+_, _*_, _≤_, _<_};
 ghost use lib.ListN.{length};
-ghost use Rattle.layout.specs.Bytes.{at, word};
+ghost use Rattle.layout.specs.Bytes.{at, word, wordSize};
 ghost use Rattle.layout.specs.Block.{lettersSound, checkSound, headSound, sizesSound, restSound, blockRefusal};
 
 // The letters that each block of a flow begins with.
@@ -20,7 +20,7 @@ pub struct Sizes {
 pub fn sizes_of(block: &[u8]) -> Sizes
     requires { ⌜ 512 ≤ length (now block) ⌝ }
     ensures { λ r. ⌜ (r .tasks ≡ word (now (block .entry)) 10) × (r .workers ≡ at (now (block .entry)) 12) × (r .cells ≡ at (now (block .entry)) 13) ⌝ }
-    ensures { λ r. ⌜ r .tasks < 65536 ⌝ }
+    ensures { λ r. ⌜ r .tasks < wordSize ⌝ }
 {
     Sizes {
         tasks: octets::word(block[10], block[11]),
@@ -64,7 +64,7 @@ fn head_sound(block: &[u8], index: u32, blocks: u32) -> bool
 // 4: the sizes are within range and block 0's, the blocks are the fewest for the tasks, and the rows in this block are right.
 fn sizes_sound(block: &[u8], index: u32, blocks: u32, first: Sizes) -> bool
     requires { ⌜ length (now block) ≡ 512 ⌝ }
-    requires { ⌜ (index < 65536) × (first .tasks < 65536) ⌝ }
+    requires { ⌜ (index < wordSize) × (first .tasks < wordSize) ⌝ }
     ensures { λ r. ⌜ r ≡ sizesSound blocks (first .tasks) (first .workers) (first .cells) index (now (block .entry)) ⌝ }
 {
     let here = sizes_of(block);
@@ -90,7 +90,7 @@ fn rest_sound(block: &[u8]) -> bool
 // The first of 2 to 5 that the block breaks; 0 where it breaks none. The file has so many blocks, and block 0 states `first`.
 pub fn refusal(block: &[u8], index: u32, blocks: u32, first: Sizes) -> u32
     requires { ⌜ length (now block) ≡ 512 ⌝ }
-    requires { ⌜ (index < 65536) × (first .tasks < 65536) ⌝ }
+    requires { ⌜ (index < wordSize) × (first .tasks < wordSize) ⌝ }
     ensures { λ r. ⌜ r ≡ blockRefusal blocks (first .tasks) (first .workers) (first .cells) index (now (block .entry)) ⌝ }
 {
     if !check_sound(block) {

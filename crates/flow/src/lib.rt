@@ -1,6 +1,7 @@
 // The flow's own kind: its limits, which all code reads from here, and the sizes of one flow within them.
 ghost use mathlib.Core.Path.{_≡_};
 ghost use Prim.Native.Nat.{_+_, _*_, _<_};
+ghost use Rattle.layout.specs.Bytes.{wordSize};
 ghost use Rattle.layout.specs.Flow.{inRange};
 ghost use Rattle.layout.specs.Block.{blocksFor, rowsIn};
 ghost use Rattle.flow.specs.Made.{statedBy, askedFor};
@@ -69,7 +70,7 @@ pub fn within(tasks: u32, workers: u32, cells: u32) -> bool
 
 // The fewest blocks for so many tasks.
 pub fn blocks_for(tasks: u32) -> u32
-    requires { ⌜ tasks < 65536 ⌝ }
+    requires { ⌜ tasks < wordSize ⌝ }
     ensures { λ r. ⌜ r ≡ blocksFor tasks ⌝ }
 {
     (tasks + 9) / 10
@@ -77,7 +78,7 @@ pub fn blocks_for(tasks: u32) -> u32
 
 // The rows in one block of a flow of so many tasks.
 pub fn rows_in(tasks: u32, index: u32) -> u32
-    requires { ⌜ index < 65536 ⌝ }
+    requires { ⌜ index < wordSize ⌝ }
     ensures { λ r. ⌜ r ≡ rowsIn tasks index ⌝ }
 {
     let before = 10 * index;

@@ -2,7 +2,7 @@
 ghost use mathlib.Core.Path.{_≡_};
 ghost use Prim.Native.Nat.{_+_, _*_, _/_, _%_, _≤_, _<_};
 ghost use lib.ListN.{length, replicate};
-ghost use Rattle.layout.specs.Bytes.{allZero};
+ghost use Rattle.layout.specs.Bytes.{allZero, wordSize};
 
 // A byte as a number of 32 bits.
 pub fn wide(byte: u8) -> u32
@@ -27,7 +27,7 @@ pub fn offset(n: u32) -> usize
 
 // The two-byte number of a low and a high byte.
 pub fn word(low: u8, high: u8) -> u32
-    ensures { λ r. ⌜ (r ≡ low + 256 * high) × (r < 65536) ⌝ }
+    ensures { λ r. ⌜ (r ≡ low + 256 * high) × (r < wordSize) ⌝ }
 {
     low as u32 + 256 * (high as u32)
 }
@@ -41,7 +41,7 @@ pub fn low(n: u32) -> u8
 
 // The high byte of a two-byte number.
 pub fn high(n: u32) -> u8
-    requires { ⌜ n < 65536 ⌝ }
+    requires { ⌜ n < wordSize ⌝ }
     ensures { λ r. ⌜ r ≡ n / 256 ⌝ }
 {
     (n / 256) as u8

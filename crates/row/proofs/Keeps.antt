@@ -7,6 +7,7 @@ use native.Mathlib.Omega.{arith}
 use native.Mathlib.Numerals.{add-one}
 use lib.ListN.{length, getD, set, drop}
 use Rattle.layout.specs.Bytes.{at}
+use Rattle.layout.specs.Flow.{mostCells}
 use Rattle.layout.specs.Row.{operationAt, taskOf, operationsSound, mayWrite, keepsModes, allKeepModes, modesSound}
 use Rattle.layout.proofs.Lists.{and-left}
 use Rattle.layout.proofs.Modes.{each-drop-all, operation-cells, earlier, keep-next}
@@ -33,14 +34,14 @@ inside (mode ∷ modes) (suc cell) h = suc-le-suc (inside modes cell h)
 
 -- one operation more: its cells are read from the row
 pub record Step (row : List ℕ) (i a b : ℕ) (modes : List ℕ) : Type 0 where
-  pub sound : operationsSound 32 row ≡ true
+  pub sound : operationsSound mostCells row ≡ true
   pub more : i < at row 2
   pub read : Read row i a b
   pub kept : Kept row i modes
 
 module _ {row : List ℕ} {i a b : ℕ} {modes : List ℕ} (step : Step row i a b modes) where
-  pub step-cells : (a < 32) × (b < 32)
-  step-cells = rw (step .read .of-a, step .read .of-b) (operation-cells 32 row i (step .sound) (step .more))
+  pub step-cells : (a < mostCells) × (b < mostCells)
+  step-cells = rw (step .read .of-a, step .read .of-b) (operation-cells mostCells row i (step .sound) (step .more))
 
   -- the table answers as the modes do
   asked : keepsTable (at row (12 + 6 * i)) (getD modes a 0) (getD modes b 0)

@@ -10,6 +10,7 @@ use lib.ListN.{length, getD, set, drop, replicate, length-set}
 use lib.Dec.{eqb}
 use Rattle.layout.specs.Lists.{all}
 use Rattle.layout.specs.Bytes.{at}
+use Rattle.layout.specs.Flow.{mostCells}
 use Rattle.layout.specs.Row.{accessAt, taskOf, accessInRange, modeOf, names, namedOnce}
 use Rattle.layout.proofs.Modes.{each-drop-less, each-drop-all, all-drop, access-cell, names-mode, once-drop}
 use Rattle.row.specs.Table.{Table}
@@ -18,11 +19,11 @@ use Rattle.row.proofs.Table.{mode-first, table-none, table-access}
 -- what is known once the accesses from j on are in the table
 pub record Passed (row : List ℕ) (j : ℕ) (modes : List ℕ) : Type 0 where
   pub most : j ≤ at row 1
-  pub size : length modes ≡ 32
+  pub size : length modes ≡ mostCells
   pub once : namedOnce (drop j (taskOf row .accesses)) ≡ true
   pub table : Table (drop j (taskOf row .accesses)) [] modes
 
-pub passed-none : (row : List ℕ) → Passed row (at row 1) (replicate 32 0)
+pub passed-none : (row : List ℕ) → Passed row (at row 1) (replicate mostCells 0)
 unfolding taskOf namedOnce
 passed-none row =
     let none = each-drop-all (at row 1) (accessAt row) (at row 1) (le-refl _) in
@@ -35,7 +36,7 @@ passed-none row =
 
 -- one access more: its cell is read from the row
 pub record Turn (row : List ℕ) (j cell : ℕ) (modes : List ℕ) : Type 0 where
-  pub sound : all (accessInRange 32) (taskOf row .accesses) ≡ true
+  pub sound : all (accessInRange mostCells) (taskOf row .accesses) ≡ true
   pub more : 0 < j
   pub read : cell ≡ at row (4 + 2 * (j - 1))
   pub passed : Passed row j modes
@@ -45,8 +46,8 @@ module _ {row : List ℕ} {j cell : ℕ} {modes : List ℕ} (turn : Turn row j c
   unfolding taskOf
   next = each-drop-less (at row 1) (accessAt row) j (turn .more) (turn .passed .most)
 
-  pub next-cell : cell < 32
-  next-cell = rw (turn .read) (access-cell 32 row (j - 1) (turn .sound) (omega arith))
+  pub next-cell : cell < mostCells
+  next-cell = rw (turn .read) (access-cell mostCells row (j - 1) (turn .sound) (omega arith))
 
   -- its cell is named once where the table has no mode for it
   once-next : namedOnce (drop (j - 1) (taskOf row .accesses)) ≡ eqb (getD modes cell 0) 0
@@ -55,7 +56,7 @@ module _ {row : List ℕ} {j cell : ℕ} {modes : List ℕ} (turn : Turn row j c
       let rest = drop j (taskOf row .accesses) in
       ap namedOnce next ∙ ap (λ (t : Bool). not (names rest (at row (4 + 2 * (j - 1)))) && t) (turn .passed .once) ∙ and-true _
       ∙ ap (λ (k : ℕ). not (names rest k)) (sym (turn .read))
-      ∙ ap not (names-mode 32 rest cell (all-drop (accessInRange 32) j (taskOf row .accesses) (turn .sound)))
+      ∙ ap not (names-mode mostCells rest cell (all-drop (accessInRange mostCells) j (taskOf row .accesses) (turn .sound)))
       ∙ Bool·not-not (eqb (modeOf rest cell) 0)
       ∙ ap (λ (n : ℕ). eqb n 0) (sym (turn .passed .table .holds cell next-cell ∙ mode-first rest cell))
 

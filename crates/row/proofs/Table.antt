@@ -8,7 +8,7 @@ use lib.ListN.{length, getD, set, replicate, getD-replicate}
 use lib.Seq.{getD-set-same, getD-set-other}
 use lib.Dec.{eqb}
 use Rattle.layout.specs.Lists.{any}
-use Rattle.layout.specs.Flow.{Access, Operation}
+use Rattle.layout.specs.Flow.{Access, Operation, mostCells}
 use Rattle.layout.specs.Row.{modeOf, written, mayWrite, mayRead, keepsModes}
 use Rattle.layout.proofs.Lists.{and-false, and-left}
 use Rattle.row.specs.Table.{Table, modeAfter, readable, keepsTable}
@@ -30,9 +30,9 @@ mode-first accesses cell =
     ap (λ (t : Bool). cond t 3 (modeOf accesses cell)) (and-false (eqb (modeOf accesses cell) 2))
 
 -- a table of zeros, and one access more
-pub table-none : Table [] [] (replicate 32 0)
+pub table-none : Table [] [] (replicate mostCells 0)
 unfolding modeOf
-table-none = record { holds = λ cell h. getD-replicate 32 cell 0 0 h }
+table-none = record { holds = λ cell h. getD-replicate mostCells cell 0 0 h }
 
 pub table-access : (xs : List Access) (x : Access) (modes : List ℕ) → x .cell < length modes → Table xs [] modes
     → Table (x ∷ xs) [] (set modes (x .cell) (x .mode))

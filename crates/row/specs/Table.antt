@@ -1,4 +1,4 @@
--- The table of modes that the row check fills: for each of the 32 cells that a flow can have, the mode under which the task
+-- The table of modes that the row check fills: for each cell that a flow can have, the mode under which the task
 -- names it, 0 where it doesn't. Once an operation has written a cell of mode 2, the cell may be read as well, as under mode 3.
 use mathlib.Core.Path.{_≡_}
 use mathlib.Core.Bool.{Bool, not, cond, _&&_, _||_}

@@ -6,6 +6,7 @@ ghost use mathlib.Core.List.{[]};
 ghost use Prim.Native.Nat.{_+_, _*_, _≤_, _<_};
 ghost use lib.ListN.{length, replicate};
 ghost use Rattle.layout.specs.Lists.{each, all};
+ghost use Rattle.layout.specs.Flow.{mostTasks, mostCells, mostAccesses, mostOperations};
 ghost use Rattle.layout.specs.File.{rowStart};
 ghost use Rattle.layout.specs.Row.{accessAt, taskOf, ownerSound, countsSound, accessInRange, accessesSound, namedOnce, operationSound, operationsSound, modesSound, rowRefusal};
 ghost use Rattle.row.specs.Table.{Table, keepsTable};
@@ -13,7 +14,7 @@ ghost use Rattle.row.specs.Table.{Table, keepsTable};
 // Where a task's row stands in a file: 48 bytes on from the row before it, and 32 more where a block ends in between. (A step waits for
 // this number, so it is worked out with one division and no remainder.)
 pub fn start(task: u32) -> usize
-    requires { ⌜ (1 ≤ task) × (task ≤ 200) ⌝ }
+    requires { ⌜ (1 ≤ task) × (task ≤ mostTasks) ⌝ }
     ensures { λ r. ⌜ r ≡ rowStart task ⌝ }
 {
     let before = task - 1;
@@ -43,7 +44,7 @@ fn counts_sound(row: &[u8]) -> bool
 // One used access: its cell and its mode are within range.
 fn access_in_range(row: &[u8], j: usize, cells: u32) -> bool
     requires { ⌜ length (now row) ≡ 48 ⌝ }
-    requires { ⌜ j < 4 ⌝ }
+    requires { ⌜ j < mostAccesses ⌝ }
     ensures { λ r. ⌜ r ≡ accessInRange cells (accessAt (now (row .entry)) j) ⌝ }
 {
     let cell = octets::wide(row[4 + 2 * j]);
@@ -54,7 +55,7 @@ fn access_in_range(row: &[u8], j: usize, cells: u32) -> bool
 // All used accesses are within range.
 fn accesses_in_range(row: &[u8], count: usize, cells: u32) -> bool
     requires { ⌜ length (now row) ≡ 48 ⌝ }
-    requires { ⌜ count ≤ 4 ⌝ }
+    requires { ⌜ count ≤ mostAccesses ⌝ }
     ensures { λ r. ⌜ r ≡ all (accessInRange cells) (each count (accessAt (now (row .entry)))) ⌝ }
 {
     let mut j = 0;
@@ -84,8 +85,8 @@ fn accesses_sound(row: &[u8], cells: u32) -> bool
 fn named_once(row: &[u8], modes: &mut [u8; Flow::ROOM_FOR_CELLS]) -> bool
     requires { ⌜ length (now row) ≡ 48 ⌝ }
     requires { ⌜ countsSound (now row) ≡ true ⌝ }
-    requires { ⌜ all (accessInRange 32) (taskOf (now row) .accesses) ≡ true ⌝ }
-    requires { ⌜ now modes ≡ replicate 32 0 ⌝ }
+    requires { ⌜ all (accessInRange mostCells) (taskOf (now row) .accesses) ≡ true ⌝ }
+    requires { ⌜ now modes ≡ replicate mostCells 0 ⌝ }
     ensures { λ r. ⌜ (r ≡ namedOnce (taskOf (now (row .entry)) .accesses)) × (r ≡ true → Table (taskOf (now (row .entry)) .accesses) [] (now (modes .exit))) ⌝ }
 {
     let mut j = octets::index(row[1]);
@@ -103,7 +104,7 @@ fn named_once(row: &[u8], modes: &mut [u8; Flow::ROOM_FOR_CELLS]) -> bool
 // One used operation: a known code, cells within range, and zero what must be.
 fn operation_sound(row: &[u8], i: usize, cells: u32) -> bool
     requires { ⌜ length (now row) ≡ 48 ⌝ }
-    requires { ⌜ i < 6 ⌝ }
+    requires { ⌜ i < mostOperations ⌝ }
     ensures { λ r. ⌜ r ≡ operationSound cells (now (row .entry)) i ⌝ }
 {
     let code = row[12 + 6 * i];
@@ -122,7 +123,7 @@ fn operation_sound(row: &[u8], i: usize, cells: u32) -> bool
 // All used operations are sound.
 fn used_sound(row: &[u8], count: usize, cells: u32) -> bool
     requires { ⌜ length (now row) ≡ 48 ⌝ }
-    requires { ⌜ count ≤ 6 ⌝ }
+    requires { ⌜ count ≤ mostOperations ⌝ }
     ensures { λ r. ⌜ r ≡ all (operationSound cells (now (row .entry))) (each count (λ i. i)) ⌝ }
 {
     let mut i = 0;
@@ -162,7 +163,7 @@ fn keeps_modes(code: u8, of_a: u8, of_b: u8) -> bool
 fn all_keep_modes(row: &[u8], modes: &mut [u8; Flow::ROOM_FOR_CELLS]) -> bool
     requires { ⌜ length (now row) ≡ 48 ⌝ }
     requires { ⌜ countsSound (now row) ≡ true ⌝ }
-    requires { ⌜ operationsSound 32 (now row) ≡ true ⌝ }
+    requires { ⌜ operationsSound mostCells (now row) ≡ true ⌝ }
     requires { ⌜ Table (taskOf (now row) .accesses) [] (now modes) ⌝ }
     ensures { λ r. ⌜ r ≡ modesSound (taskOf (now (row .entry))) ⌝ }
 {
@@ -183,7 +184,7 @@ fn all_keep_modes(row: &[u8], modes: &mut [u8; Flow::ROOM_FOR_CELLS]) -> bool
 // The first of 6 to 11 that the row breaks; 0 where it breaks none.
 pub fn refusal(row: &[u8], workers: u32, cells: u32) -> u32
     requires { ⌜ length (now row) ≡ 48 ⌝ }
-    requires { ⌜ cells ≤ 32 ⌝ }
+    requires { ⌜ cells ≤ mostCells ⌝ }
     ensures { λ r. ⌜ r ≡ rowRefusal workers cells (now (row .entry)) ⌝ }
 {
     if !owner_sound(row, workers) {

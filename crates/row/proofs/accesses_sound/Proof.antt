@@ -2,13 +2,14 @@
 use Prim.Native.Nat.{_≤_}
 use native.Mathlib.Omega.{arith}
 use borrow.Author.Needs.{needs}
+use Rattle.layout.specs.Flow.{mostAccesses}
 use Rattle.layout.specs.Row.{taskOf, accessesSound}
 use Rattle.layout.proofs.Modes.{counts-kept}
 use Rattle.row.proofs.accesses_sound.Statement.{statement}
 use Rattle.row.proofs.accesses_sound.Tie as tie
 
 -- the number is at most what a row can have
-counted : (c : tie.After-index) → c .index .result ≤ 4
+counted : (c : tie.After-index) → c .index .result ≤ mostAccesses
 counted c = rw (c .index .ensures .0) (counts-kept (c .before .before .before .args .row .now) (c .before .before .before .pre .1) .0)
 
 returns : tie.Need-returns

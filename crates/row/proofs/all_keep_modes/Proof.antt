@@ -3,13 +3,14 @@ use mathlib.Core.Path.{sym, _∙_}
 use Prim.Native.Nat.{_≤_, _-_}
 use borrow.Author.Needs.{needs}
 use borrow.Author.Tests.{not-true, not-false}
+use Rattle.layout.specs.Flow.{mostOperations}
 use Rattle.layout.proofs.Modes.{counts-kept}
 use Rattle.row.proofs.Keeps.{Kept, Step, kept-none, step-cells, breaks, kept-next, kept-all}
 use Rattle.row.proofs.all_keep_modes.Statement.{statement}
 use Rattle.row.proofs.all_keep_modes.Tie as tie
 
 abbrev Inv-loop : tie.InvT-loop
-Inv-loop row modes₀ count i₀ modes i = (i ≤ count) × (count ≤ 6) × Kept row i modes
+Inv-loop row modes₀ count i₀ modes i = (i ≤ count) × (count ≤ mostOperations) × Kept row i modes
 
 abbrev μ-loop : tie.MeasureT-loop
 μ-loop row modes₀ count i₀ modes i = count - i

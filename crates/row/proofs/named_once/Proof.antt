@@ -3,13 +3,14 @@ use mathlib.Core.Path.{sym}
 use mathlib.Core.Bool.{false≢true}
 use Prim.Native.Nat.{_≤_}
 use borrow.Author.Needs.{needs}
+use Rattle.layout.specs.Flow.{mostAccesses}
 use Rattle.layout.proofs.Modes.{counts-kept}
 use Rattle.row.proofs.Once.{Passed, Turn, passed-none, next-cell, named-twice, passed-next, passed-all}
 use Rattle.row.proofs.named_once.Statement.{statement}
 use Rattle.row.proofs.named_once.Tie as tie
 
 abbrev Inv-loop : tie.InvT-loop
-Inv-loop row modes₀ j₀ modes j = (j ≤ 4) × Passed row j modes
+Inv-loop row modes₀ j₀ modes j = (j ≤ mostAccesses) × Passed row j modes
 
 abbrev μ-loop : tie.MeasureT-loop
 μ-loop row modes₀ j₀ modes j = j

@@ -2,13 +2,14 @@
 use Prim.Native.Nat.{_≤_}
 use native.Mathlib.Omega.{arith}
 use borrow.Author.Needs.{needs}
+use Rattle.layout.specs.Flow.{mostOperations}
 use Rattle.layout.specs.Row.{operationsSound}
 use Rattle.layout.proofs.Modes.{counts-kept}
 use Rattle.row.proofs.operations_sound.Statement.{statement}
 use Rattle.row.proofs.operations_sound.Tie as tie
 
 -- the number is at most what a row can have
-counted : (c : tie.After-index) → c .index .result ≤ 6
+counted : (c : tie.After-index) → c .index .result ≤ mostOperations
 counted c = rw (c .index .ensures .0) (counts-kept (c .before .before .before .args .row .now) (c .before .before .before .pre .1) .1)
 
 returns : tie.Need-returns

@@ -3,6 +3,7 @@ use mathlib.Core.Path.{_≡_, refl, sym, _∙_}
 use mathlib.Core.Bool.{true, cond}
 use borrow.Author.Needs.{needs}
 use borrow.Author.Tests.{not-true, not-false}
+use Rattle.layout.specs.Flow.{mostCells}
 use Rattle.layout.specs.Refusal.{firstBroken}
 use Rattle.layout.specs.Row.{taskOf, ownerSound, countsSound, accessesSound, namedOnce, operationsSound, rowRefusal}
 use Rattle.layout.proofs.Modes.{accesses-more, operations-more}
@@ -45,7 +46,7 @@ returns-3 c =
     rw (kept-6 (c .before .before .before .before), kept-7 (c .before .before), sym (c .before .accesses-sound .ensures) ∙ not-true _ (c .if3 .taken))
 
 named-once-requires : tie.Need-named-once-requires
-named-once-requires c κs = (c .before .before .before .before .before .before .before .before .pre .0, (kept-7 (c .before .before .before), (accesses-more _ 32 _ (c .before .before .before .before .before .before .before .before .pre .1) (kept-8 (c .before)), refl)))
+named-once-requires c κs = (c .before .before .before .before .before .before .before .before .pre .0, (kept-7 (c .before .before .before), (accesses-more _ mostCells _ (c .before .before .before .before .before .before .before .before .pre .1) (kept-8 (c .before)), refl)))
 
 returns-4 : tie.Need-returns-4
 unfolding rowRefusal firstBroken
@@ -66,7 +67,7 @@ all-keep-modes-requires c κs =
       start .pre .0,
       (
         kept-7 (c .before .before .before .before .before .before .before .before),
-        (operations-more _ 32 _ (start .pre .1) (kept-10 (c .before)), c .before .before .before .before .named-once .ensures .1 (not-false _ (c .before .before .before .if4 .left))),
+        (operations-more _ mostCells _ (start .pre .1) (kept-10 (c .before)), c .before .before .before .before .named-once .ensures .1 (not-false _ (c .before .before .before .if4 .left))),
       ),
     )
 
