@@ -9,6 +9,7 @@ use native.Mathlib.Nat.{zero-add}
 use borrow.Author.Tests.{ne-eqb, le-leb, lt-leb}
 use lib.ListN.{length}
 use lib.Dec.{leb}
+use Rattle.layout.specs.Flow.{mostTasks, mostCells, mostBytes}
 use Rattle.layout.specs.Refusal as Rules
 use Rattle.layout.specs.Refusal.{success, refusal, unless, orElse, firstAt}
 use Rattle.layout.specs.Row.{rowRefusal}
@@ -56,7 +57,7 @@ Stated file sizes = (sizes .tasks ≡ tasksOf file) × (sizes .workers ≡ worke
 
 -- what is met in a file of whole blocks
 pub record BlocksMet (file : List ℕ) (blocks : ℕ) (sizes : Sizes) (met : Answer) : Type 0 where
-  pub whole : WholePieces 512 10240 (length file) blocks
+  pub whole : WholePieces 512 mostBytes (length file) blocks
   pub stated : Stated file sizes
   pub found : met ≡ answerOf (fromBlocks file blocks (sizes .tasks) (sizes .workers) (sizes .cells))
 
@@ -92,7 +93,7 @@ module _ {file : List ℕ} {blocks : ℕ} {sizes : Sizes} {met : Answer} (m : Bl
 
   -- so that the rows stand within the file
   pub rows-within : met .number ≡ 0
-      → (length file ≡ 512 * blocksFor (sizes .tasks)) × (sizes .tasks ≤ 200) × (sizes .cells ≤ 32)
+      → (length file ≡ 512 * blocksFor (sizes .tasks)) × (sizes .tasks ≤ mostTasks) × (sizes .cells ≤ mostCells)
   rows-within none =
       let kept = first-kept none in (
         m .whole .is-whole ∙ ap (λ (k : ℕ). 512 * k) (kept .fewest),

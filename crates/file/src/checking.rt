@@ -8,6 +8,8 @@ ghost use mathlib.Core.Path.{_≡_};
 ghost use mathlib.Core.Bool.{cond};
 ghost use Prim.Native.Nat.{_+_, _*_, _/_, _≤_, _<_};
 ghost use lib.ListN.{length};
+ghost use Rattle.layout.specs.Bytes.{wordSize};
+ghost use Rattle.layout.specs.Flow.{mostTasks, mostCells, mostBlocks};
 ghost use Rattle.layout.specs.Refusal.{firstAt};
 ghost use Rattle.layout.specs.Row.{rowRefusal};
 ghost use Rattle.layout.specs.Block.{blocksFor, blockRefusal};
@@ -33,7 +35,7 @@ fn whole_blocks(bytes: usize) -> u32
 
 // The first refusal among the blocks.
 fn blocks_met(file: &[u8], blocks: u32, first: Sizes) -> Answer
-    requires { ⌜ (length (now file) ≡ 512 * blocks) × (blocks ≤ 20) × (first .tasks < 65536) ⌝ }
+    requires { ⌜ (length (now file) ≡ 512 * blocks) × (blocks ≤ mostBlocks) × (first .tasks < wordSize) ⌝ }
     ensures { λ r. ⌜ r ≡ answerOf (firstAt (λ index. blockRefusal blocks (first .tasks) (first .workers) (first .cells) index (blockAt (now (file .entry)) index)) 0 blocks) ⌝ }
 {
     let mut index: u32 = 0;
@@ -56,7 +58,7 @@ fn blocks_met(file: &[u8], blocks: u32, first: Sizes) -> Answer
 
 // The first refusal among the rows of a file.
 fn rows_met(file: &[u8], sizes: Sizes) -> Answer
-    requires { ⌜ (length (now file) ≡ 512 * blocksFor (sizes .tasks)) × (sizes .tasks ≤ 200) × (sizes .cells ≤ 32) ⌝ }
+    requires { ⌜ (length (now file) ≡ 512 * blocksFor (sizes .tasks)) × (sizes .tasks ≤ mostTasks) × (sizes .cells ≤ mostCells) ⌝ }
     ensures { λ r. ⌜ r ≡ answerOf (firstAt (λ task. rowRefusal (sizes .workers) (sizes .cells) (rowAt (now (file .entry)) task)) 1 (sizes .tasks)) ⌝ }
 {
     let mut task: u32 = 1;

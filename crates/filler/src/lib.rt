@@ -6,11 +6,12 @@ ghost use mathlib.Core.Path.{_≡_};
 ghost use Prim.Native.Nat.{_+_, _*_, _≤_, _<_};
 ghost use lib.ListN.{length, take};
 ghost use Rattle.layout.specs.Bytes.{padded};
+ghost use Rattle.layout.specs.Flow.{mostTasks, mostWorkers, mostCells, mostBlocks};
 ghost use Rattle.layout.specs.Block.{blocksFor, headOf, sealed, blockOf};
 
 // Bytes 0-15.
 fn head(index: u32, flow: Flow) -> [u8; 16]
-    requires { ⌜ (index < 20) × (flow .tasks ≤ 200) × (flow .workers ≤ 8) × (flow .cells ≤ 32) ⌝ }
+    requires { ⌜ (index < mostBlocks) × (flow .tasks ≤ mostTasks) × (flow .workers ≤ mostWorkers) × (flow .cells ≤ mostCells) ⌝ }
     ensures { λ r. ⌜ r ≡ headOf (flow .tasks) (flow .workers) (flow .cells) index ⌝ }
 {
     let rows = flow::rows_in(flow.tasks, index) as u8;
@@ -65,8 +66,8 @@ fn seal(part: &mut [u8])
 // Fills one block of a flow out of all of its rows.
 pub fn fill(part: &mut [u8], all: &[u8], index: u32, flow: Flow)
     requires { ⌜ length (now part) ≡ 512 ⌝ }
-    requires { ⌜ (length (now all) ≡ 48 * flow .tasks) × (flow .tasks ≤ 200) × (index < blocksFor (flow .tasks)) ⌝ }
-    requires { ⌜ (flow .workers ≤ 8) × (flow .cells ≤ 32) ⌝ }
+    requires { ⌜ (length (now all) ≡ 48 * flow .tasks) × (flow .tasks ≤ mostTasks) × (index < blocksFor (flow .tasks)) ⌝ }
+    requires { ⌜ (flow .workers ≤ mostWorkers) × (flow .cells ≤ mostCells) ⌝ }
     ensures { λ _. ⌜ now (part .exit) ≡ blockOf (flow .tasks) (flow .workers) (flow .cells) (now (all .entry)) index ⌝ }
 {
     let first = head(index, flow);

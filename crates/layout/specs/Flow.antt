@@ -54,6 +54,10 @@ mostBlocks = 20
 abbrev pub mostBytes : ℕ
 mostBytes = 512 * mostBlocks
 
+-- "rows .. 1 to 200 times 48 bytes"
+abbrev pub mostRowBytes : ℕ
+mostRowBytes = 48 * mostTasks
+
 -- the longest schedule: one of "over 65,536 bytes" is refused
 abbrev pub mostSchedule : ℕ
 mostSchedule = 65536

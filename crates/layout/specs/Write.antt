@@ -6,7 +6,7 @@ use lib.ListN.{length}
 use lib.Dec.{eqb, leb}
 use Rattle.layout.specs.Lists.{each, joined}
 use Rattle.layout.specs.Bytes.{part}
-use Rattle.layout.specs.Flow.{Flow, mostTasks, inRange}
+use Rattle.layout.specs.Flow.{Flow, mostRowBytes, inRange}
 use Rattle.layout.specs.Refusal.{Answer, refusal, unless, orElse, firstAt}
 use Rattle.layout.specs.Row.{taskOf, rowOf, rowRefusal}
 use Rattle.layout.specs.Block.{blocksFor, blockOf}
@@ -38,7 +38,7 @@ rowOfTask rows task = part (48 * (task - 1)) (48 * (task - 1) + 48) rows
 
 -- 15: "writer's rows not 1 to 200 times 48 bytes"
 abbrev pub rowsSound : ℕ → Bool
-rowsSound bytes = leb 1 bytes && leb bytes (48 * mostTasks) && eqb (bytes % 48) 0
+rowsSound bytes = leb 1 bytes && leb bytes mostRowBytes && eqb (bytes % 48) 0
 
 -- "The writer, given rows, workers and cells, has 15, 4, 6 to 11, 16. In its 4 only workers and cells can be at fault"
 unfoldable pub rowsAnswer : List ℕ → ℕ → ℕ → Answer

@@ -4,6 +4,7 @@ ghost use mathlib.Core.List.{_++_};
 ghost use Prim.Native.Nat.{_+_, _*_, _≤_, _<_};
 ghost use lib.ListN.{length, drop};
 ghost use Rattle.layout.specs.Lists.{each, joined};
+ghost use Rattle.layout.specs.Flow.{mostTasks};
 ghost use Rattle.layout.specs.Refusal.{refusal};
 ghost use Rattle.layout.specs.Block.{blocksFor};
 ghost use Rattle.layout.specs.File.{rowAt};
@@ -38,7 +39,7 @@ impl ReadAnswer {
 
 // Copies the rows of an accepted file.
 fn copy_rows(file: &[u8], rows: &mut [u8], tasks: u32)
-    requires { ⌜ (length (now file) ≡ 512 * blocksFor tasks) × (tasks ≤ 200) × (48 * tasks ≤ length (now rows)) ⌝ }
+    requires { ⌜ (length (now file) ≡ 512 * blocksFor tasks) × (tasks ≤ mostTasks) × (48 * tasks ≤ length (now rows)) ⌝ }
     ensures { λ _. ⌜ now (rows .exit) ≡ joined (rowAt (now (file .entry))) (each tasks (λ i. i + 1)) ++ drop (48 * tasks) (now (rows .entry)) ⌝ }
 {
     let mut done: u32 = 0;

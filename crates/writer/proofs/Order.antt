@@ -6,7 +6,7 @@ use mathlib.Core.Bool.{true, false}
 use mathlib.Core.List.{List}
 use Prim.Native.Nat.{ℕ}
 use lib.ListN.{length}
-use Rattle.layout.specs.Flow.{inRange}
+use Rattle.layout.specs.Flow.{mostRowBytes, inRange}
 use Rattle.layout.specs.Refusal as Rules
 use Rattle.layout.specs.Refusal.{refusal, firstAt}
 use Rattle.layout.specs.Row.{rowRefusal}
@@ -22,7 +22,7 @@ rows-refused rows workers cells room h = rw h
 abbrev pub fromGiven : List ℕ → ℕ → ℕ → ℕ → Rules.Answer
 fromGiven rows tasks workers cells = firstAt (λ task. rowRefusal workers cells (rowOfTask rows task)) 1 tasks
 
-module _ (rows : List ℕ) (tasks workers cells : ℕ) (whole : WholePieces 48 9600 (length rows) tasks) where
+module _ (rows : List ℕ) (tasks workers cells : ℕ) (whole : WholePieces 48 mostRowBytes (length rows) tasks) where
   pub sizes-refused : (room : ℕ) → inRange tasks workers cells ≡ false → refusal 4 0 ≡ writeAnswer rows workers cells room
   unfolding writeAnswer rowsAnswer
   sizes-refused room h =

@@ -6,6 +6,7 @@ use Prim.Native.Nat.{ℕ, _*_, _≤_, _<_}
 use native.Mathlib.Omega.{arith}
 use borrow.Author.Tests.{ne-eqb}
 use lib.ListN.{length, drop}
+use Rattle.layout.specs.Flow.{mostTasks, mostWorkers, mostCells, mostRowBytes}
 use Rattle.layout.specs.Refusal as Rules
 use Rattle.layout.specs.Refusal.{success, refusal}
 use Rattle.layout.specs.Block.{blocksFor, blockOf}
@@ -52,14 +53,14 @@ writeAll blocks = record { number = 0; place = 0; bytes = 512 * blocks }
 
 -- the flow is made of given rows, which are whole rows
 pub record FlowMade (rows : List ℕ) (tasks workers cells : ℕ) (flow : Flow) : Type 0 where
-  pub whole : WholePieces 48 9600 (length rows) tasks
+  pub whole : WholePieces 48 mostRowBytes (length rows) tasks
   pub made : Kept flow tasks workers cells
 
 pub record FlowFits (rows : List ℕ) (flow : Flow) : Type 0 where
   pub is-whole : length rows ≡ 48 * flow .tasks
-  pub tasks-fit : flow .tasks ≤ 200
-  pub workers-fit : flow .workers ≤ 8
-  pub cells-fit : flow .cells ≤ 32
+  pub tasks-fit : flow .tasks ≤ mostTasks
+  pub workers-fit : flow .workers ≤ mostWorkers
+  pub cells-fit : flow .cells ≤ mostCells
 
 module _ {rows : List ℕ} {tasks workers cells : ℕ} {flow : Flow} (f : FlowMade rows tasks workers cells flow) where
   pub flow-fits : FlowFits rows flow

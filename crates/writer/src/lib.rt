@@ -8,6 +8,7 @@ ghost use mathlib.Core.Bool.{cond};
 ghost use mathlib.Core.List.{_++_};
 ghost use Prim.Native.Nat.{_+_, _*_, _/_, _≤_, _<_};
 ghost use lib.ListN.{length, drop};
+ghost use Rattle.layout.specs.Flow.{mostTasks, mostWorkers, mostCells};
 ghost use Rattle.layout.specs.Refusal.{refusal, firstAt};
 ghost use Rattle.layout.specs.Row.{rowRefusal};
 ghost use Rattle.layout.specs.Block.{blocksFor};
@@ -54,7 +55,7 @@ fn whole_rows(bytes: usize) -> u32
 
 // The first refusal among given rows.
 fn given_met(rows: &[u8], flow: Flow) -> Answer
-    requires { ⌜ (length (now rows) ≡ 48 * flow .tasks) × (flow .tasks ≤ 200) × (flow .cells ≤ 32) ⌝ }
+    requires { ⌜ (length (now rows) ≡ 48 * flow .tasks) × (flow .tasks ≤ mostTasks) × (flow .cells ≤ mostCells) ⌝ }
     ensures { λ r. ⌜ r ≡ answerOf (firstAt (λ task. rowRefusal (flow .workers) (flow .cells) (rowOfTask (now (rows .entry)) task)) 1 (flow .tasks)) ⌝ }
 {
     let mut task: u32 = 1;
@@ -77,7 +78,7 @@ fn given_met(rows: &[u8], flow: Flow) -> Answer
 
 // Fills the blocks of a flow, each in the part of the output from 512 times its number.
 fn fill_blocks(rows: &[u8], out: &mut [u8], flow: Flow)
-    requires { ⌜ (length (now rows) ≡ 48 * flow .tasks) × (flow .tasks ≤ 200) × (flow .workers ≤ 8) × (flow .cells ≤ 32) × (512 * blocksFor (flow .tasks) ≤ length (now out)) ⌝ }
+    requires { ⌜ (length (now rows) ≡ 48 * flow .tasks) × (flow .tasks ≤ mostTasks) × (flow .workers ≤ mostWorkers) × (flow .cells ≤ mostCells) × (512 * blocksFor (flow .tasks) ≤ length (now out)) ⌝ }
     ensures { λ _. ⌜ now (out .exit) ≡ fileOf (flow .tasks) (flow .workers) (flow .cells) (now (rows .entry)) ++ drop (512 * blocksFor (flow .tasks)) (now (out .entry)) ⌝ }
 {
     let blocks = flow::blocks_for(flow.tasks);

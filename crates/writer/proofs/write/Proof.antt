@@ -4,6 +4,7 @@ use mathlib.Core.Path.{sym, ap, _∙_}
 use native.Mathlib.Omega.{arith}
 use borrow.Author.Needs.{needs}
 use lib.ListN.{length}
+use Rattle.layout.specs.Flow.{mostRowBytes}
 use Rattle.layout.specs.Refusal.{refusal}
 use Rattle.flow.specs.Made.{statedBy}
 use Rattle.flow.proofs.Answers.{within-is, outside-is}
@@ -17,12 +18,12 @@ returns : tie.Need-returns
 returns c =
     let bytes = length (c .before .before .before .before .before .args .rows .now) in
     write-refused (refusal 15 0) (omega arith) _ _ _ _ _
-    (rows-refused _ _ _ _ (unsound 48 9600 bytes _ (c .before .before .whole-rows .ensures) (c .before .if1 .taken)))
+    (rows-refused _ _ _ _ (unsound 48 mostRowBytes bytes _ (c .before .before .whole-rows .ensures) (c .before .if1 .taken)))
     (c .refused .ensures)
 
 -- from here on, the rows are whole rows
-whole : (c : tie.Else1) → WholePieces 48 9600 (length (c .before .before .before .before .args .rows .now)) (c .before .whole-rows .result)
-whole c = is-sound 48 9600 _ _ (c .before .whole-rows .ensures) (c .if1 .left)
+whole : (c : tie.Else1) → WholePieces 48 mostRowBytes (length (c .before .before .before .before .args .rows .now)) (c .before .whole-rows .result)
+whole c = is-sound 48 mostRowBytes _ _ (c .before .whole-rows .ensures) (c .if1 .left)
 
 enum-told : tie.Need-enum-told
 enum-told c = search needs

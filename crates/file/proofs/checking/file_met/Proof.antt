@@ -4,6 +4,7 @@ use mathlib.Core.Path.{ap}
 use native.Mathlib.Omega.{arith}
 use borrow.Author.Needs.{needs}
 use lib.ListN.{length}
+use Rattle.layout.specs.Flow.{mostBytes}
 use Rattle.file.specs.Answers.{answerOf}
 use Rattle.file.proofs.Whole.{WholePieces, unsound, is-sound}
 use Rattle.file.proofs.Order.{length-refused, BlocksMet, block-refused, row-answers, rows-within}
@@ -14,11 +15,11 @@ returns : tie.Need-returns
 returns c =
     let file = c .before .before .before .args .file .now in
     let blocks = c .before .whole-blocks in
-    ap answerOf (length-refused file (unsound 512 10240 (length file) (blocks .result) (blocks .ensures) (c .if1 .taken)))
+    ap answerOf (length-refused file (unsound 512 mostBytes (length file) (blocks .result) (blocks .ensures) (c .if1 .taken)))
 
 -- from here on, the file is whole blocks
-whole : (c : tie.Else1) → WholePieces 512 10240 (length (c .before .before .before .args .file .now)) (c .before .whole-blocks .result)
-whole c = is-sound 512 10240 _ _ (c .before .whole-blocks .ensures) (c .if1 .left)
+whole : (c : tie.Else1) → WholePieces 512 mostBytes (length (c .before .before .before .args .file .now)) (c .before .whole-blocks .result)
+whole c = is-sound 512 mostBytes _ _ (c .before .whole-blocks .ensures) (c .if1 .left)
 
 sizes-of-requires : tie.Need-sizes-of-requires
 sizes-of-requires c κs = omega (arith, whole c)
