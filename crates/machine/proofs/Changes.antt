@@ -8,6 +8,7 @@ use native.Mathlib.Omega.{arith}
 use borrow.Author.Tests.{eqb-true, eqb-false}
 use lib.ListN.{getD, set}
 use lib.Dec.{eqb}
+use Rattle.layout.specs.Flow.{mostWorkers, mostCells, mostAccesses, mostOperations}
 use Rattle.layout.specs.Row.{accessAt, operationAt}
 use Rattle.steps.specs.Operations.{effect, operated}
 use Rattle.steps.specs.Machine.{Counter, Machine, put, counter, withShared, withRow, withCells}
@@ -42,15 +43,15 @@ at-access row (suc (suc (suc (suc (suc stage))))) index other h = absurd h
 
 -- the numbers of a row that fits are small
 pub small-access : (row : List ℕ) (cells stage index : ℕ) → RowFits row cells → Stands row stage index → (stage ≡ 2 → ⊥)
-    → (index < 4) × (accessAt row index .cell < 32)
+    → (index < mostAccesses) × (accessAt row index .cell < mostCells)
 small-access row cells stage index fits stands other =
     let at : index < getD row 1 0 = at-access row stage index other stands in
     (omega (arith, fits .few-accesses), fits .access-cells index at)
 
-pub small-index : (row : List ℕ) (cells stage index : ℕ) → RowFits row cells → Stands row stage index → index < 6
+pub small-index : (row : List ℕ) (cells stage index : ℕ) → RowFits row cells → Stands row stage index → index < mostOperations
 small-index row cells stage index fits stands = go (eqb stage 2) refl
   where
-    go : (same : Bool) → eqb stage 2 ≡ same → index < 6
+    go : (same : Bool) → eqb stage 2 ≡ same → index < mostOperations
     go true t = omega (arith, at-operation row stage index (eqb-true stage 2 t) stands, fits .few-operations)
     go false t = omega (arith, small-access row cells stage index fits stands (eqb-false stage 2 t) .0)
 
@@ -78,8 +79,8 @@ module _ (row : List ℕ) (w number index : ℕ) (kept : Arrays) (shape : Shape 
 -- a worker at an access, whose cell is read from the row
 pub record AtAccess (row : List ℕ) (w index cell : ℕ) (kept : Arrays) : Type 0 where
   pub shape : Shape (kept .shared) (kept .private)
-  pub worker : w < 8
-  pub within : cell < 32
+  pub worker : w < mostWorkers
+  pub within : cell < mostCells
   pub here : cell ≡ accessAt row index .cell
 
 module _ {row : List ℕ} {w index cell : ℕ} {kept : Arrays} (number : ℕ) (at : AtAccess row w index cell kept) where

@@ -1,5 +1,5 @@
 -- Reads grow slowly: an own step adds at most 1 to a counter's reads, and a task of another owner is registered by at most 1 for
--- each of its accesses, so a step adds at most 4.
+-- each of its accesses, so a step adds at most as many as a task has accesses.
 use mathlib.Core.Path.{_≡_, refl, sym, ap, subst, _∙_}
 use mathlib.Core.Bool.{Bool, true, false, cond}
 use mathlib.Core.List.{List, [], _∷_}
@@ -8,7 +8,7 @@ use native.Mathlib.Omega.{arith}
 use lib.ListN.{length, getD, drop}
 use lib.Seq.{getD-drop}
 use lib.Dec.{eqb}
-use Rattle.layout.specs.Flow.{Access, Task}
+use Rattle.layout.specs.Flow.{Access, Task, mostAccesses}
 use Rattle.layout.specs.Row.{taskOf}
 use Rattle.layout.specs.File.{rowAt, tasksIn}
 use Rattle.layout.proofs.Lists.{each-length, each-at}
@@ -113,54 +113,54 @@ register-reads n number (access ∷ accesses) row h c =
     go true = omega arith
     go false = omega (arith, h (access .cell))
 
-other-reads : (n : ℕ) (s : Setting) (m : Machine) (w : ℕ) (task : Task) → length (task .accesses) ≤ 4 → ReadsAtMost n m
-    → ReadsAtMost (n + 4) (otherStep s m w task .machine)
+other-reads : (n : ℕ) (s : Setting) (m : Machine) (w : ℕ) (task : Task) → length (task .accesses) ≤ mostAccesses → ReadsAtMost n m
+    → ReadsAtMost (n + mostAccesses) (otherStep s m w task .machine)
 other-reads n s m w task few r =
     let number : ℕ = s .number (m .places w .passed + 1) in
-    let more = more-reads n (n + 4) m (omega arith) r in
+    let more = more-reads n (n + mostAccesses) m (omega arith) r in
     record {
       shared-reads = more .shared-reads;
       private-reads =
-          put-row-reads (n + 4) (m .private) w (registerAll number (task .accesses) (m .private w)) (more .private-reads)
+          put-row-reads (n + mostAccesses) (m .private) w (registerAll number (task .accesses) (m .private w)) (more .private-reads)
           (λ c. omega (arith, register-reads n number (task .accesses) (m .private w) (r .private-reads w) c));
     }
 
 -- ---- a step
 
 pub step-reads : (n : ℕ) (s : Setting) (m : Machine) (w : ℕ)
-    → ((i : ℕ) (none : Task) → i < length (s .tasks) → length (getD (s .tasks) i none .accesses) ≤ 4)
+    → ((i : ℕ) (none : Task) → i < length (s .tasks) → length (getD (s .tasks) i none .accesses) ≤ mostAccesses)
     → ReadsAtMost n m
-    → ReadsAtMost (n + 4) (step s m w .machine)
+    → ReadsAtMost (n + mostAccesses) (step s m w .machine)
 unfolding step stepFrom
 step-reads n s m w few r = go (drop (m .places w .passed) (s .tasks)) refl
   where
     passed : ℕ
     passed = m .places w .passed
 
-    tested : (task : Task) (isOwner : Bool) → length (task .accesses) ≤ 4
-        → ReadsAtMost (n + 4) (cond isOwner (ownStep s m w task (drop (m .places w .made) (ownSteps task))) (otherStep s m w task) .machine)
-    tested task true l = more-reads (n + 1) (n + 4) _ (omega arith) (own-reads n s m w task (drop (m .places w .made) (ownSteps task)) r)
+    tested : (task : Task) (isOwner : Bool) → length (task .accesses) ≤ mostAccesses
+        → ReadsAtMost (n + mostAccesses) (cond isOwner (ownStep s m w task (drop (m .places w .made) (ownSteps task))) (otherStep s m w task) .machine)
+    tested task true l = more-reads (n + 1) (n + mostAccesses) _ (omega arith) (own-reads n s m w task (drop (m .places w .made) (ownSteps task)) r)
     tested task false l = other-reads n s m w task l r
 
-    go : (left : List Task) → drop passed (s .tasks) ≡ left → ReadsAtMost (n + 4) (stepFrom s m w left .machine)
-    go [] e = more-reads n (n + 4) m (omega arith) r
+    go : (left : List Task) → drop passed (s .tasks) ≡ left → ReadsAtMost (n + mostAccesses) (stepFrom s m w left .machine)
+    go [] e = more-reads n (n + mostAccesses) m (omega arith) r
     go (task ∷ later) e =
         let inside : passed + 0 < length (s .tasks) = omega (arith, shown-within (s .tasks) passed task later e) in
         let here : getD (s .tasks) (passed + 0) task ≡ task =
         sym (getD-drop passed (s .tasks) 0 task) ∙ ap (λ (l : List Task). getD l 0 task) e
         in
         tested task (eqb (task .owner) w)
-        (subst (λ (t : Task). length (t .accesses) ≤ 4) here (few (passed + 0) task inside))
+        (subst (λ (t : Task). length (t .accesses) ≤ mostAccesses) here (few (passed + 0) task inside))
 
 -- a step over the tasks of a file
 pub file-step-reads : (n : ℕ) (file : List ℕ) (tasks cells : ℕ) (m : Machine) (w : ℕ) → Ready file tasks cells → ReadsAtMost n m
-    → ReadsAtMost (n + 4) (step (settingIn file tasks) m w .machine)
+    → ReadsAtMost (n + mostAccesses) (step (settingIn file tasks) m w .machine)
 file-step-reads n file tasks cells m w ready r = step-reads n (settingIn file tasks) m w few r
   where
-    few : (i : ℕ) (none : Task) → i < length (tasksIn file tasks) → length (getD (tasksIn file tasks) i none .accesses) ≤ 4
+    few : (i : ℕ) (none : Task) → i < length (tasksIn file tasks) → length (getD (tasksIn file tasks) i none .accesses) ≤ mostAccesses
     few i none h =
         let inside : i < tasks = omega (arith, each-length tasks (λ i. taskOf (rowAt file (i + 1)))) in
         let row : List ℕ = rowAt file (i + 1) in
         let here : getD (tasksIn file tasks) i none ≡ taskOf row = each-at tasks (λ i. taskOf (rowAt file (i + 1))) i none inside in
-        subst (λ (t : Task). length (t .accesses) ≤ 4) (sym here)
+        subst (λ (t : Task). length (t .accesses) ≤ mostAccesses) (sym here)
         (omega (arith, access-count row, ready .rows (i + 1) (omega arith) (omega arith) .few-accesses))

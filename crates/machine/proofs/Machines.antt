@@ -10,7 +10,7 @@ use borrow.Author.Tests.{eqb-true, eqb-false}
 use lib.ListN.{length, getD, set, length-set}
 use lib.Seq.{getD-set-same, getD-set-other}
 use lib.Dec.{eqb}
-use Rattle.layout.specs.Flow.{Access, Task}
+use Rattle.layout.specs.Flow.{Access, Task, mostWorkers, mostCells}
 use Rattle.steps.specs.Operations.{Effect}
 use Rattle.steps.specs.Machine.{Counter, Place, Machine, put, counter, withShared, withRow, withPlace}
 use Rattle.steps.specs.Step.{Try, waitWrite, waitReads, operate, endRead, zeroReads, postWrite, writes, outcome, afterRead, registerAll, change}
@@ -60,7 +60,7 @@ pub shared-shape : (shared : List (List ℕ)) (private : List (List (List ℕ)))
 shared-shape shared private cell numbers shape =
     record { shared-size = length-set shared cell numbers ∙ shape .shared-size; private-size = shape .private-size; row-size = shape .row-size }
 
-row-shape : (shared : List (List ℕ)) (private : List (List (List ℕ))) (w : ℕ) (row : List (List ℕ)) → w < 8 → length row ≡ 32
+row-shape : (shared : List (List ℕ)) (private : List (List (List ℕ))) (w : ℕ) (row : List (List ℕ)) → w < mostWorkers → length row ≡ mostCells
     → Shape shared private
     → Shape shared (set private w row)
 row-shape shared private w row h size shape =
@@ -70,7 +70,7 @@ row-shape shared private w row h size shape =
       row-size = λ v l. ap length (stored-at private w row [] v (omega (arith, shape .private-size))) ∙ go v l (eqb v w);
     }
   where
-    go : (v : ℕ) → v < 8 → (same : Bool) → length (cond same row (getD private v [])) ≡ 32
+    go : (v : ℕ) → v < mostWorkers → (same : Bool) → length (cond same row (getD private v [])) ≡ mostCells
     go v l true = size
     go v l false = shape .row-size v l
 
@@ -93,8 +93,8 @@ row-replaced tasks kept private′ w row only =
     go v true t = ap (λ (k : ℕ). counterAt (getD private′ k [])) (eqb-true v w t) ∙ only .here
     go v false t = ap counterAt (only .elsewhere v (eqb-false v w t))
 
-module _ (shared : List (List ℕ)) (w number : ℕ) (h : w < 8) where
-  pub noted-only : (private : List (List (List ℕ))) (cell : ℕ) (isWrite : Bool) → cell < 32 → Shape shared private
+module _ (shared : List (List ℕ)) (w number : ℕ) (h : w < mostWorkers) where
+  pub noted-only : (private : List (List (List ℕ))) (cell : ℕ) (isWrite : Bool) → cell < mostCells → Shape shared private
       → RowOnly shared private (noted private w cell isWrite number) w
       (put (counterAt (getD private w [])) cell (cond isWrite (counter number 0) (afterRead (counterAt (getD private w []) cell))))
   noted-only private cell isWrite l shape =
@@ -121,7 +121,7 @@ module _ (shared : List (List ℕ)) (w number : ℕ) (h : w < 8) where
       go false = refl
 
   pub all-noted-only : (private : List (List (List ℕ))) (accesses : List Access)
-      → ((j : ℕ) (none : Access) → j < length accesses → getD accesses j none .cell < 32)
+      → ((j : ℕ) (none : Access) → j < length accesses → getD accesses j none .cell < mostCells)
       → Shape shared private
       → RowOnly shared private (notedAll private w number accesses) w (registerAll number accesses (counterAt (getD private w [])))
   unfolding notedAll registerAll

@@ -9,7 +9,7 @@ use native.Mathlib.Omega.{arith}
 use borrow.Author.Tests.{eq-eqb, ne-eqb}
 use lib.ListN.{length, getD, set, drop, length-set}
 use lib.Dec.{eqb}
-use Rattle.layout.specs.Flow.{Access, Task}
+use Rattle.layout.specs.Flow.{Access, Task, mostWorkers, mostCells}
 use Rattle.layout.specs.Row.{taskOf}
 use Rattle.layout.specs.File.{rowAt, tasksIn}
 use Rattle.layout.proofs.Modes.{each-drop, each-drop-all}
@@ -100,11 +100,11 @@ standing-kept file tasks places w next standing h stands =
     Rests : List ℕ → Type 0
     Rests numbers = getD numbers 0 0 < tasks → Stands (rowAt file (getD numbers 0 0 + 1)) (getD numbers 1 0) (getD numbers 2 0)
 
-    go : (v : ℕ) → v < 8 → (same : Bool) → Rests (cond same next (getD places v []))
+    go : (v : ℕ) → v < mostWorkers → (same : Bool) → Rests (cond same next (getD places v []))
     go v l true = stands
     go v l false = standing .stands v l
 
-module _ (file : List ℕ) (tasks w : ℕ) (kept : Arrays) (sound : Steppable file tasks kept) (h : w < 8) where
+module _ (file : List ℕ) (tasks w : ℕ) (kept : Arrays) (sound : Steppable file tasks kept) (h : w < mostWorkers) where
   abbrev passed : ℕ
   passed = passedAt kept w
 
@@ -183,10 +183,10 @@ module _ (file : List ℕ) (tasks w : ℕ) (kept : Arrays) (sound : Steppable fi
               ∙ sym (step-at false (ne-eqb (getD row 0 0) w other));
         }
       where
-        counted : (j : ℕ) (none : Access) → j < length (taskOf row .accesses) → getD (taskOf row .accesses) j none .cell < 32
+        counted : (j : ℕ) (none : Access) → j < length (taskOf row .accesses) → getD (taskOf row .accesses) j none .cell < mostCells
         counted j none k =
             let inside : j < getD row 1 0 = omega (arith, access-count row) in
-            subst (λ (access : Access). access .cell < 32) (sym (access-there row j none inside)) (fits .access-cells j inside)
+            subst (λ (access : Access). access .cell < mostCells) (sym (access-there row j none inside)) (fits .access-cells j inside)
 
     -- its own task
     pub step-own : (why : Outcome) (after : Arrays) → getD row 0 0 ≡ w → OwnStep row w kept why after → StepDone file tasks w kept why after
@@ -232,7 +232,7 @@ module _ (file : List ℕ) (tasks w : ℕ) (kept : Arrays) (sound : Steppable fi
         some task low high = sound .ready .rows task low high .some-access
 
         Stand : List (List ℕ) → Type 0
-        Stand to = (length to ≡ 8) × Standing file tasks to
+        Stand to = (length to ≡ mostWorkers) × Standing file tasks to
 
         stand : (after .places ≡ kept .places) ⊎ (after .places ≡ set (kept .places) w next) → Stand (after .places)
         stand (inl e) = subst Stand (sym e) (sound .places-size, sound .standing)

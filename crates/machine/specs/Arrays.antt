@@ -14,7 +14,7 @@ use mathlib.Core.List.{List, [], _∷_}
 use Prim.Native.Nat.{ℕ, zero, suc, _+_, _*_, _<_, _≤_}
 use lib.ListN.{length, getD, drop, set}
 use lib.Dec.{ltb}
-use Rattle.layout.specs.Flow.{Access, Task, mostTasks, mostWorkers, mostCells, mostAccesses, mostOperations}
+use Rattle.layout.specs.Flow.{Access, Task, mostTasks, mostWorkers, mostCells, mostAccesses, mostOperations, mostSchedule}
 use Rattle.layout.specs.Row.{accessAt, operationAt}
 use Rattle.layout.specs.Block.{blocksFor}
 use Rattle.layout.specs.File.{rowAt, tasksIn}
@@ -173,9 +173,10 @@ pub record Standing (file : List ℕ) (tasks : ℕ) (places : List (List ℕ)) :
   pub stands : (w : ℕ) → w < mostWorkers → getD (getD places w []) 0 0 < tasks
       → Stands (rowAt file (getD (getD places w []) 0 0 + 1)) (getD (getD places w []) 1 0) (getD (getD places w []) 2 0)
 
--- the step asks that no counter has more reads than this; it adds 4 at most, and a run has at most 65,536 steps
+-- the step asks that no counter has more reads than this: a step adds one for each access of a task at most, and a run has no more
+-- steps than its schedule bytes
 abbrev pub mostReads : ℕ
-mostReads = 300000
+mostReads = mostAccesses * mostSchedule
 
 -- no counter has more reads than so many
 pub record ReadsAtMost (limit : ℕ) (m : Machine) : Type 0 where

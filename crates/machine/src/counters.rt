@@ -4,13 +4,14 @@ ghost use mathlib.Core.Path.{_≡_};
 ghost use mathlib.Core.List.{[]};
 ghost use Prim.Native.Nat.{ℕ, _+_, _<_, _≤_};
 ghost use lib.ListN.{length, getD};
+ghost use Rattle.layout.specs.Flow.{mostWorkers, mostCells, mostAccesses};
 ghost use Rattle.layout.specs.Row.{accessAt, taskOf};
 ghost use Rattle.steps.specs.Step.{writes};
 ghost use Rattle.machine.specs.Arrays.{noted, notedAll, mostReads};
 
 // Whether the access at an index of a row is a write.
 pub fn is_write(row: &[u8], index: usize) -> bool
-    requires { ⌜ (length (now row) ≡ 48) × (index < 4) ⌝ }
+    requires { ⌜ (length (now row) ≡ 48) × (index < mostAccesses) ⌝ }
     ensures { λ r. ⌜ r ≡ writes (accessAt (now (row .entry)) index) ⌝ }
 {
     let mode = row[5 + 2 * index];
@@ -19,7 +20,7 @@ pub fn is_write(row: &[u8], index: usize) -> bool
 
 // One counter of a worker's row: a write sets it, a read adds 1 to its reads.
 pub(crate) fn note(private: &mut AllCounters, w: usize, cell: usize, write: bool, number: u32)
-    requires { ⌜ (w < 8) × (cell < 32) × (getD (getD (getD (now «private») w []) cell []) 1 0 < 4294967295) ⌝ }
+    requires { ⌜ (w < mostWorkers) × (cell < mostCells) × (getD (getD (getD (now «private») w []) cell []) 1 0 < 4294967295) ⌝ }
     ensures { λ _. ⌜ now («private» .exit) ≡ noted (now («private» .entry)) w cell write number ⌝ }
 {
     if write {
@@ -33,8 +34,8 @@ pub(crate) fn note(private: &mut AllCounters, w: usize, cell: usize, write: bool
 
 // A task of another owner: each of its accesses is registered in the worker's row.
 pub(crate) fn register(row: &[u8], w: usize, number: u32, private: &mut AllCounters)
-    requires { ⌜ (length (now row) ≡ 48) × (getD (now row) 1 0 ≤ 4) × (w < 8) ⌝ }
-    requires { ⌜ ((j : ℕ) → j < getD (now row) 1 0 → accessAt (now row) j .cell < 32) ⌝ }
+    requires { ⌜ (length (now row) ≡ 48) × (getD (now row) 1 0 ≤ mostAccesses) × (w < mostWorkers) ⌝ }
+    requires { ⌜ ((j : ℕ) → j < getD (now row) 1 0 → accessAt (now row) j .cell < mostCells) ⌝ }
     requires { ⌜ ((c : ℕ) → getD (getD (getD (now «private») w []) c []) 1 0 ≤ mostReads) ⌝ }
     ensures { λ _. ⌜ now («private» .exit) ≡ notedAll (now («private» .entry)) w number (taskOf (now (row .entry)) .accesses) ⌝ }
 {

@@ -2,6 +2,7 @@
 ghost use mathlib.Core.Path.{_≡_};
 ghost use Prim.Native.Nat.{_<_};
 ghost use lib.ListN.{length};
+ghost use Rattle.layout.specs.Flow.{mostOperations};
 ghost use Rattle.layout.specs.Row.{operationAt};
 ghost use Rattle.steps.specs.Operations.{becomes, effect, operated};
 
@@ -22,7 +23,7 @@ pub(crate) fn value(code: u8, k: u32, a: u32, b: u32) -> u32
 
 // Makes one operation of a row.
 pub fn operate(row: &[u8], index: usize, cells: &mut [u32])
-    requires { ⌜ (length (now row) ≡ 48) × (index < 6) ⌝ }
+    requires { ⌜ (length (now row) ≡ 48) × (index < mostOperations) ⌝ }
     requires { ⌜ (operationAt (now row) index .a < length (now cells)) × (operationAt (now row) index .b < length (now cells)) ⌝ }
     ensures { λ _. ⌜ now (cells .exit) ≡ operated effect (operationAt (now (row .entry)) index) (now (cells .entry)) ⌝ }
 {

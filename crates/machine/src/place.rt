@@ -4,11 +4,12 @@ use crate::counters::is_write;
 ghost use mathlib.Core.Path.{_≡_};
 ghost use Prim.Native.Nat.{_+_, _<_};
 ghost use lib.ListN.{length};
+ghost use Rattle.layout.specs.Flow.{mostTasks, mostAccesses, mostOperations};
 ghost use Rattle.machine.specs.Arrays.{afterWait, afterEnd, nextPlace};
 
 // After the last wait of an access: the next access, or the operations, or the ends.
 fn after_wait(row: &[u8], passed: u32, index: u32) -> Place
-    requires { ⌜ (length (now row) ≡ 48) × (index < 4) ⌝ }
+    requires { ⌜ (length (now row) ≡ 48) × (index < mostAccesses) ⌝ }
     ensures { λ r. ⌜ r ≡ afterWait (now (row .entry)) passed index ⌝ }
 {
     if index + 1 < octets::wide(row[1]) {
@@ -22,7 +23,7 @@ fn after_wait(row: &[u8], passed: u32, index: u32) -> Place
 
 // After the last end of an access: the next access, or the next task.
 fn after_end(row: &[u8], passed: u32, index: u32) -> Place
-    requires { ⌜ (length (now row) ≡ 48) × (index < 4) × (passed < 200) ⌝ }
+    requires { ⌜ (length (now row) ≡ 48) × (index < mostAccesses) × (passed < mostTasks) ⌝ }
     ensures { λ r. ⌜ r ≡ afterEnd (now (row .entry)) passed index ⌝ }
 {
     if index + 1 < octets::wide(row[1]) {
@@ -33,7 +34,7 @@ fn after_end(row: &[u8], passed: u32, index: u32) -> Place
 
 // After an operation: the next one, or the ends.
 fn after_operation(row: &[u8], passed: u32, index: u32) -> Place
-    requires { ⌜ (length (now row) ≡ 48) × (index < 6) ⌝ }
+    requires { ⌜ (length (now row) ≡ 48) × (index < mostOperations) ⌝ }
     ensures { λ r. ⌜ r ≡ nextPlace (now (row .entry)) passed 2 index ⌝ }
 {
     if index + 1 < octets::wide(row[2]) {
@@ -44,8 +45,8 @@ fn after_operation(row: &[u8], passed: u32, index: u32) -> Place
 
 // The next place.
 pub(crate) fn next(row: &[u8], passed: u32, stage: u32, index: u32) -> Place
-    requires { ⌜ (length (now row) ≡ 48) × (passed < 200) × (stage < 5) × (index < 6) ⌝ }
-    requires { ⌜ ((stage ≡ 2 → ⊥) → index < 4) ⌝ }
+    requires { ⌜ (length (now row) ≡ 48) × (passed < mostTasks) × (stage < 5) × (index < mostOperations) ⌝ }
+    requires { ⌜ ((stage ≡ 2 → ⊥) → index < mostAccesses) ⌝ }
     ensures { λ r. ⌜ r ≡ nextPlace (now (row .entry)) passed stage index ⌝ }
 {
     if stage == 2 {

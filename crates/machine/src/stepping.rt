@@ -12,6 +12,7 @@ ghost use mathlib.Core.Path.{_≡_};
 ghost use mathlib.Core.List.{[]};
 ghost use Prim.Native.Nat.{_+_, _<_};
 ghost use lib.ListN.{length, getD};
+ghost use Rattle.layout.specs.Flow.{mostTasks, mostWorkers, mostCells, mostAccesses};
 ghost use Rattle.layout.specs.Row.{accessAt};
 ghost use Rattle.steps.specs.Step.{outcome};
 ghost use Rattle.layout.specs.File.{tasksIn};
@@ -27,8 +28,8 @@ fn held(
     shared: &Counters,
     private: &AllCounters,
 ) -> Outcome
-    requires { ⌜ (length (now row) ≡ 48) × (w < 8) ⌝ }
-    requires { ⌜ (stage < 2 → (index < 4) × (accessAt (now row) index .cell < 32)) ⌝ }
+    requires { ⌜ (length (now row) ≡ 48) × (w < mostWorkers) ⌝ }
+    requires { ⌜ (stage < 2 → (index < mostAccesses) × (accessAt (now row) index .cell < mostCells)) ⌝ }
     ensures { λ r. ⌜ outcomeOf r ≡ outcome (machineOf [] (arrays [] (now (shared .entry)) (now («private» .entry)) [])) w (tryAt (now (row .entry)) stage index) ⌝ }
 {
     if 2 <= stage {
@@ -59,7 +60,7 @@ fn change(
     shared: &mut Counters,
     private: &mut AllCounters,
 )
-    requires { ⌜ RowFits (now row) (length (now cells)) × Stands (now row) stage index × (w < 8) ⌝ }
+    requires { ⌜ RowFits (now row) (length (now cells)) × Stands (now row) stage index × (w < mostWorkers) ⌝ }
     requires { ⌜ CountersFit (now shared) (now «private») ⌝ }
     ensures { λ _. ⌜ Changed (now (row .entry)) w number stage index (arrays (now (cells .entry)) (now (shared .entry)) (now («private» .entry)) []) (arrays (now (cells .exit)) (now (shared .exit)) (now («private» .exit)) []) ⌝ }
 {
@@ -96,7 +97,7 @@ fn own_step(
     private: &mut AllCounters,
     places: &mut Places,
 ) -> Outcome
-    requires { ⌜ RowFits (now row) (length (now cells)) × (w < 8) × (length (now places) ≡ 8) × (getD (getD (now places) w []) 0 0 < 200) ⌝ }
+    requires { ⌜ RowFits (now row) (length (now cells)) × (w < mostWorkers) × (length (now places) ≡ mostWorkers) × (getD (getD (now places) w []) 0 0 < mostTasks) ⌝ }
     requires { ⌜ Stands (now row) (getD (getD (now places) w []) 1 0) (getD (getD (now places) w []) 2 0) ⌝ }
     requires { ⌜ CountersFit (now shared) (now «private») ⌝ }
     ensures { λ r. ⌜ OwnStep (now (row .entry)) w (arrays (now (cells .entry)) (now (shared .entry)) (now («private» .entry)) (now (places .entry))) (outcomeOf r) (arrays (now (cells .exit)) (now (shared .exit)) (now («private» .exit)) (now (places .exit))) ⌝ }
@@ -122,7 +123,7 @@ pub fn step(
     private: &mut AllCounters,
     places: &mut Places,
 ) -> Outcome
-    requires { ⌜ Steppable (now file) tasks (arrays (now cells) (now shared) (now «private») (now places)) × (w < 8) ⌝ }
+    requires { ⌜ Steppable (now file) tasks (arrays (now cells) (now shared) (now «private») (now places)) × (w < mostWorkers) ⌝ }
     requires { ⌜ ReadsAtMost mostReads (machineOf (tasksIn (now file) tasks) (arrays (now cells) (now shared) (now «private») (now places))) ⌝ }
     ensures { λ r. ⌜ StepDone (now (file .entry)) tasks w (arrays (now (cells .entry)) (now (shared .entry)) (now («private» .entry)) (now (places .entry))) (outcomeOf r) (arrays (now (cells .exit)) (now (shared .exit)) (now («private» .exit)) (now (places .exit))) ⌝ }
 {

@@ -9,7 +9,7 @@ use borrow.Author.Tests.{eqb-true, le-leb, lt-leb}
 use lib.ListN.{length, getD, drop}
 use lib.Seq.{getD-take, getD-drop}
 use lib.Dec.{eqb, leb, ltb}
-use Rattle.layout.specs.Flow.{Access, Task}
+use Rattle.layout.specs.Flow.{Access, Task, mostWorkers}
 use Rattle.layout.specs.Row.{accessAt, taskOf}
 use Rattle.layout.specs.File.{rowStart, rowAt, tasksIn}
 use Rattle.layout.proofs.Modes.{each-drop, each-drop-all}
@@ -68,7 +68,7 @@ module _ (row : List ℕ) where
 -- the owner stands first in the row
 pub owner-read : (file : List ℕ) (tasks cells index from w : ℕ) → Ready file tasks cells → index < tasks → from ≡ rowStart (index + 1)
     → w ≡ getD file from 0
-    → (w ≡ getD (rowAt file (index + 1)) 0 0) × (w < 8)
+    → (w ≡ getD (rowAt file (index + 1)) 0 0) × (w < mostWorkers)
 owner-read file tasks cells index from w ready h e is =
     let start : ℕ = rowStart (index + 1) in
     let inside : 0 < start + 48 - start = omega arith in
@@ -96,7 +96,7 @@ module _ (file : List ℕ) (tasks : ℕ) (places : List (List ℕ)) (standing : 
   abbrev tested : ℕ → ℕ → Bool
   tested index w = ltb index (passed w) || eqb index (passed w) && leb 3 (stage w)
 
-  at-it : (index w : ℕ) → index < tasks → w < 8 → index ≡ passed w
+  at-it : (index w : ℕ) → index < tasks → w < mostWorkers → index ≡ passed w
       → leb (doneAfter (taskOf (rowAt file (index + 1)))) (standsAt w .made) ≡ leb 3 (stage w)
   unfolding madeIn
   at-it index w h l e =
@@ -106,7 +106,7 @@ module _ (file : List ℕ) (tasks : ℕ) (places : List (List ℕ)) (standing : 
       (each-drop tasks (λ i. taskOf (rowAt file (i + 1))) (passed w) more)
       ∙ done-from (rowAt file (passed w + 1)) (stage w) (getD (getD places w []) 2 0) (standing .stands w l more)
 
-  is-done : (index w : ℕ) → index < tasks → w < 8 → isDone (taskOf (rowAt file (index + 1))) index (standsAt w) ≡ tested index w
+  is-done : (index w : ℕ) → index < tasks → w < mostWorkers → isDone (taskOf (rowAt file (index + 1))) index (standsAt w) ≡ tested index w
   is-done index w h l = go (eqb index (passed w)) refl
     where
       go : (b : Bool) → eqb index (passed w) ≡ b
@@ -116,7 +116,7 @@ module _ (file : List ℕ) (tasks : ℕ) (places : List (List ℕ)) (standing : 
       go false e = refl
 
   -- one task more
-  pub task-counted : (index w count next whole : ℕ) (b : Bool) → index < tasks → w < 8 → w ≡ getD (rowAt file (index + 1)) 0 0
+  pub task-counted : (index w count next whole : ℕ) (b : Bool) → index < tasks → w < mostWorkers → w ≡ getD (rowAt file (index + 1)) 0 0
       → tested index w ≡ b
       → next ≡ count + cond b 1 0
       → whole ≡ count + doneFrom standsAt index (drop index all)

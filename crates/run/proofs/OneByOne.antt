@@ -5,7 +5,7 @@ use mathlib.Core.List.{List}
 use Prim.Native.Nat.{ℕ, _+_, _-_, _<_, _≤_}
 use native.Mathlib.Omega.{arith}
 use lib.ListN.{take, drop, getD, length}
-use Rattle.layout.specs.Flow.{Operation, Task}
+use Rattle.layout.specs.Flow.{Operation, Task, mostOperations}
 use Rattle.layout.specs.Lists.{each}
 use Rattle.layout.proofs.Modes.{each-drop, each-drop-all}
 use Rattle.layout.specs.Row.{operationAt}
@@ -18,12 +18,12 @@ use Rattle.steps.specs.Plain.{afterOperations, afterTasks}
 -- an operation of a row whose numbers are small enough can be made
 pub can-operate : (row cells now : List ℕ) (i count : ℕ) → RowFits row (length cells) → i < count → count ≡ getD row 2 0
     → length now ≡ length cells
-    → ((length row ≡ 48) × (i < 6)) × ((operationAt row i .a < length now) × (operationAt row i .b < length now))
+    → ((length row ≡ 48) × (i < mostOperations)) × ((operationAt row i .a < length now) × (operationAt row i .b < length now))
 can-operate row cells now i count fits h e l =
     let inside : i < getD row 2 0 = omega arith in
     let a : operationAt row i .a < length cells = fits .writes-cells i inside in
     let b : operationAt row i .b < length cells = fits .reads-cells i inside in
-    let few : getD row 2 0 ≤ 6 = fits .few-operations in
+    let few : getD row 2 0 ≤ mostOperations = fits .few-operations in
     ((fits .size, omega arith), (omega arith, omega arith))
 
 -- a task's row fits where the file is ready for the cells

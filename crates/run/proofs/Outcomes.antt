@@ -9,7 +9,7 @@ use native.Mathlib.Omega.{arith}
 use borrow.Author.Tests.{ltb-true, le-leb, lt-leb, eq-eqb, ne-eqb}
 use lib.ListN.{length, getD}
 use lib.Dec.{eqb, leb, ltb}
-use Rattle.layout.specs.Flow.{Task, Flow}
+use Rattle.layout.specs.Flow.{Task, Flow, mostSchedule}
 use Rattle.layout.specs.Refusal as Rules
 use Rattle.layout.specs.Refusal.{success, refusal, unless, orElse, firstAt}
 use Rattle.layout.specs.File.{fileAnswer, flowOf, tasksIn}
@@ -105,23 +105,23 @@ byBytes schedule workers = firstAt (λ index. unless (ltb (getD schedule index 0
 module _ {file : List ℕ} {met : CheckAnswer} (promised : CheckPromise file met) (none : met .number ≡ 0) (cells : List ℕ)
     (sized : length cells ≡ met .cells) (schedule : List ℕ) where
   -- 13: the schedule is short enough, or not
-  measured : (b : Bool) → leb (length schedule) 65536 ≡ b
+  measured : (b : Bool) → leb (length schedule) mostSchedule ≡ b
       → orElse (refusal (unless b 13) 0) (byBytes schedule (met .workers)) ≡ runAnswer file cells schedule
   unfolding runAnswer
   measured b t =
-      let rest : ℕ → Rules.Answer = λ workers. orElse (refusal (unless (leb (length schedule) 65536) 13) 0) (byBytes schedule workers) in
+      let rest : ℕ → Rules.Answer = λ workers. orElse (refusal (unless (leb (length schedule) mostSchedule) 13) 0) (byBytes schedule workers) in
       ap (λ (c : Bool). orElse (refusal (unless c 13) 0) (byBytes schedule (met .workers))) (sym t)
       ∙ ap rest (workers-held promised none)
       ∙ sym (second-given (plainAnswer file cells) (rest (flowOf file .workers))
       (sym (ap (λ (a : Rules.Answer). a .number) (cells-kept promised cells none sized))))
 
-  pub too-long : 65536 < length schedule → refusal 13 0 ≡ runAnswer file cells schedule
-  too-long h = measured false (lt-leb (length schedule) 65536 h)
+  pub too-long : mostSchedule < length schedule → refusal 13 0 ≡ runAnswer file cells schedule
+  too-long h = measured false (lt-leb (length schedule) mostSchedule h)
 
-  module _ (short : length schedule ≤ 65536) {named : Answer} (found : named ≡ answerOf (byBytes schedule (met .workers))) where
+  module _ (short : length schedule ≤ mostSchedule) {named : Answer} (found : named ≡ answerOf (byBytes schedule (met .workers))) where
     pub names-answer : refusal (named .number) (named .place) ≡ runAnswer file cells schedule
     names-answer =
-        ap (λ (a : Answer). refusal (a .number) (a .place)) found ∙ measured true (le-leb (length schedule) 65536 short)
+        ap (λ (a : Answer). refusal (a .number) (a .place)) found ∙ measured true (le-leb (length schedule) mostSchedule short)
 
     module _ (all-named : named .number ≡ 0) where
       each-named : (i : ℕ) → i < length schedule → unless (ltb (getD schedule (0 + i) 0) (met .workers)) 14 ≡ 0
@@ -137,7 +137,7 @@ module _ {file : List ℕ} {met : CheckAnswer} (promised : CheckPromise file met
       succeeds : success ≡ runAnswer file cells schedule
       succeeds =
           sym (success-at (λ index. unless (ltb (getD schedule index 0) (met .workers)) 14) 0 (length schedule) each-named)
-          ∙ measured true (le-leb (length schedule) 65536 short)
+          ∙ measured true (le-leb (length schedule) mostSchedule short)
 
       -- the steps that advance are at most the flow's total
       within-total : ran file cells schedule .advanced ≤ total (flowOf file)

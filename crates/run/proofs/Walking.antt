@@ -13,7 +13,7 @@ use lib.Dec.{leb}
 use types.Run.{OneOf}
 use denote.Enum.Declared.{tagOf}
 use Rattle.layout.specs.Lists.{each, all}
-use Rattle.layout.specs.Flow.{Task}
+use Rattle.layout.specs.Flow.{Task, mostWorkers, mostCells, mostAccesses, mostSchedule}
 use Rattle.layout.specs.Row.{taskOf}
 use Rattle.layout.specs.File.{rowAt, tasksIn}
 use Rattle.layout.proofs.Lists.{each-length}
@@ -39,10 +39,10 @@ everywhere f (suc n) zero x d e = e
 everywhere f (suc n) (suc i) x d e = everywhere f n i x d e
 
 abbrev noCounters : List (List ℕ)
-noCounters = replicate 32 (replicate 2 0)
+noCounters = replicate mostCells (replicate 2 0)
 
 abbrev freshArrays : List ℕ → Arrays
-freshArrays cells = arrays cells noCounters (replicate 8 noCounters) (replicate 8 (replicate 3 0))
+freshArrays cells = arrays cells noCounters (replicate mostWorkers noCounters) (replicate mostWorkers (replicate 3 0))
 
 -- ---- a step that was held is counted as such
 
@@ -66,12 +66,12 @@ module _ (file : List ℕ) (tasks : ℕ) where
   fresh-is cells = λ i.
       record {
         cells = cells;
-        shared = fun-ext (λ c. everywhere counterOf 32 c (replicate 2 0) [] refl) i;
+        shared = fun-ext (λ c. everywhere counterOf mostCells c (replicate 2 0) [] refl) i;
         private =
             fun-ext
             (λ w. fun-ext
-            (λ c. everywhere (λ (row : List (List ℕ)). counterAt row c) 8 w noCounters [] (everywhere counterOf 32 c (replicate 2 0) [] refl))) i;
-        places = fun-ext (λ w. everywhere (placeOf held-in) 8 w (replicate 3 0) [] refl ∙ ap (place 0) (none-made held-in)) i;
+            (λ c. everywhere (λ (row : List (List ℕ)). counterAt row c) mostWorkers w noCounters [] (everywhere counterOf mostCells c (replicate 2 0) [] refl))) i;
+        places = fun-ext (λ w. everywhere (placeOf held-in) mostWorkers w (replicate 3 0) [] refl ∙ ap (place 0) (none-made held-in)) i;
       }
 
   abbrev runOf : Arrays → ℕ → ℕ → Run
@@ -80,7 +80,7 @@ module _ (file : List ℕ) (tasks : ℕ) where
   -- where the loop stands: so many bytes are passed, so many steps advanced and were held
   pub record Walking (start schedule : List ℕ) (passed advanced held : ℕ) (kept : Arrays) : Type 0 where
     pub sound : Steppable file tasks kept
-    pub reads : ReadsAtMost (4 * passed) (machineOf held-in kept)
+    pub reads : ReadsAtMost (mostAccesses * passed) (machineOf held-in kept)
     pub counts : advanced + held ≡ passed
     pub left : run s start schedule ≡ runFrom s (runOf kept advanced held) (drop passed schedule)
 
@@ -91,13 +91,13 @@ module _ (file : List ℕ) (tasks : ℕ) where
   fresh-sound start ready =
       record {
         ready = ready;
-        shape = record { shared-size = refl; private-size = refl; row-size = λ w l. ap length (getD-replicate 8 w noCounters [] l) };
+        shape = record { shared-size = refl; private-size = refl; row-size = λ w l. ap length (getD-replicate mostWorkers w noCounters [] l) };
         places-size = refl;
         standing =
             record {
               stands =
                   λ w l.
-                  subst Rests (sym (getD-replicate 8 w (replicate 3 0) [] l))
+                  subst Rests (sym (getD-replicate mostWorkers w (replicate 3 0) [] l))
                   (λ more. ready .rows 1 (omega arith) (omega arith) .some-access);
             };
       }
@@ -120,12 +120,12 @@ module _ (file : List ℕ) (tasks : ℕ) where
   module _ {start schedule : List ℕ} {passed advanced held : ℕ} {kept : Arrays} (walking : Walking start schedule passed advanced held kept)
       (within : passed < length schedule) where
     -- the step can be taken
-    pub step-ready : (workers w : ℕ) → workers ≤ 8 → length schedule ≤ 65536 → ((i : ℕ) → i < length schedule → getD schedule i 0 < workers)
+    pub step-ready : (workers w : ℕ) → workers ≤ mostWorkers → length schedule ≤ mostSchedule → ((i : ℕ) → i < length schedule → getD schedule i 0 < workers)
         → w ≡ getD schedule passed 0
-        → (Steppable file tasks kept × (w < 8)) × ReadsAtMost mostReads (machineOf held-in kept)
+        → (Steppable file tasks kept × (w < mostWorkers)) × ReadsAtMost mostReads (machineOf held-in kept)
     step-ready workers w few short names is = (
       (walking .sound, omega (arith, names passed within)),
-      more-reads (4 * passed) mostReads (machineOf held-in kept) (omega arith) (walking .reads),
+      more-reads (mostAccesses * passed) mostReads (machineOf held-in kept) (omega arith) (walking .reads),
     )
 
     module _ (w : ℕ) (is : w ≡ getD schedule passed 0) (after : Arrays) where
@@ -142,9 +142,9 @@ module _ (file : List ℕ) (tasks : ℕ) where
           record {
             sound = done .sound;
             reads =
-                subst (ReadsAtMost (4 * (passed + 1))) (sym (ap (λ (d : Stepped). d .machine) (done .machine-is)))
-                (more-reads (4 * passed + 4) (4 * (passed + 1)) (step s m w .machine) (omega arith)
-                (file-step-reads (4 * passed) file tasks (length (kept .cells)) m w (walking .sound .ready) (walking .reads)));
+                subst (ReadsAtMost (mostAccesses * (passed + 1))) (sym (ap (λ (d : Stepped). d .machine) (done .machine-is)))
+                (more-reads (mostAccesses * passed + mostAccesses) (mostAccesses * (passed + 1)) (step s m w .machine) (omega arith)
+                (file-step-reads (mostAccesses * passed) file tasks (length (kept .cells)) m w (walking .sound .ready) (walking .reads)));
             counts = sum;
             left =
                 walking .left ∙ ap (runFrom s before) named

@@ -10,6 +10,7 @@ ghost use mathlib.Core.Path.{_≡_};
 ghost use Prim.Native.Nat.{ℕ, _≤_, _<_};
 ghost use lib.ListN.{length, getD};
 ghost use lib.Dec.{ltb};
+ghost use Rattle.layout.specs.Flow.{mostWorkers, mostSchedule};
 ghost use Rattle.layout.specs.Refusal.{unless, firstAt};
 ghost use Rattle.file.specs.Answers.{answerOf};
 ghost use Rattle.layout.specs.File.{tasksIn};
@@ -18,7 +19,7 @@ ghost use Rattle.run.specs.Promises.{RunPromise, Walked};
 
 // 14: the first byte of a schedule that is not below workers.
 fn schedule_met(schedule: &[u8], workers: u32) -> Answer
-    requires { ⌜ length (now schedule) ≤ 65536 ⌝ }
+    requires { ⌜ length (now schedule) ≤ mostSchedule ⌝ }
     ensures { λ r. ⌜ r ≡ answerOf (firstAt (λ index. unless (ltb (getD (now (schedule .entry)) index 0) workers) 14) 0 (length (now (schedule .entry)))) ⌝ }
 {
     let mut i: u32 = 0;
@@ -39,7 +40,7 @@ fn schedule_met(schedule: &[u8], workers: u32) -> Answer
 
 // The steps of a schedule, from a fresh start, and what is told of them. A step that does not advance is held.
 fn walk(file: &[u8], tasks: u32, workers: u32, cells: &mut [u32], schedule: &[u8]) -> RunAnswer
-    requires { ⌜ Ready (now file) tasks (length (now cells)) × (workers ≤ 8) × (length (now schedule) ≤ 65536) ⌝ }
+    requires { ⌜ Ready (now file) tasks (length (now cells)) × (workers ≤ mostWorkers) × (length (now schedule) ≤ mostSchedule) ⌝ }
     requires { ⌜ ((i : ℕ) → i < length (now schedule) → getD (now schedule) i 0 < workers) ⌝ }
     ensures { λ r. ⌜ Walked (tasksIn (now (file .entry)) tasks) workers (now (cells .entry)) (now (schedule .entry)) r (now (cells .exit)) ⌝ }
 {

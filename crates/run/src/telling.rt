@@ -7,13 +7,14 @@ ghost use Prim.Native.Nat.{_≤_};
 ghost use lib.ListN.{length, getD};
 ghost use lib.Dec.{leb};
 ghost use Rattle.layout.specs.Lists.{each, all};
+ghost use Rattle.layout.specs.Flow.{mostWorkers};
 ghost use Rattle.steps.specs.Run.{doneTasks};
 ghost use Rattle.layout.specs.File.{tasksIn};
 ghost use Rattle.machine.specs.Arrays.{arrays, machineOf, Ready, Standing};
 
 // How many tasks are done: the owner is past the task, or at it with only ends left.
 pub(crate) fn done_tasks(file: &[u8], tasks: u32, cells: usize, places: &Places) -> u32
-    requires { ⌜ Ready (now file) tasks cells × Standing (now file) tasks (now places) × (length (now places) ≡ 8) ⌝ }
+    requires { ⌜ Ready (now file) tasks cells × Standing (now file) tasks (now places) × (length (now places) ≡ mostWorkers) ⌝ }
     ensures { λ r. ⌜ r ≡ doneTasks (tasksIn (now (file .entry)) tasks) (machineOf (tasksIn (now (file .entry)) tasks) (arrays [] [] [] (now (places .entry)))) ⌝ }
 {
     let mut done: u32 = 0;
@@ -32,7 +33,7 @@ pub(crate) fn done_tasks(file: &[u8], tasks: u32, cells: usize, places: &Places)
 
 // 1 where all workers are past the last task.
 pub(crate) fn all_past(workers: u32, tasks: u32, places: &Places) -> u32
-    requires { ⌜ workers ≤ 8 ⌝ }
+    requires { ⌜ workers ≤ mostWorkers ⌝ }
     ensures { λ r. ⌜ r ≡ cond (all (λ w. leb tasks (getD (getD (now (places .entry)) w []) 0 0)) (each workers (λ w. w))) 1 0 ⌝ }
 {
     let count = octets::offset(workers);

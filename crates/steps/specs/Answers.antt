@@ -4,7 +4,7 @@ use mathlib.Core.List.{List}
 use Prim.Native.Nat.{ℕ}
 use lib.ListN.{length, getD}
 use lib.Dec.{eqb, leb, ltb}
-use Rattle.layout.specs.Flow.{Flow}
+use Rattle.layout.specs.Flow.{Flow, mostSchedule}
 use Rattle.layout.specs.Refusal.{Answer, refusal, unless, orElse, firstAt}
 use Rattle.layout.specs.File.{fileAnswer, flowOf, told}
 use Rattle.steps.specs.Operations.{effect}
@@ -17,7 +17,7 @@ startSound flow cells = eqb (length cells) (flow .cells)
 
 -- 13: "schedule over 65,536 bytes"
 abbrev pub scheduleSound : List ℕ → Bool
-scheduleSound schedule = leb (length schedule) 65536
+scheduleSound schedule = leb (length schedule) mostSchedule
 
 -- 14: "a schedule byte not below workers", place "its index"
 abbrev pub byteNumber : Flow → List ℕ → ℕ → ℕ

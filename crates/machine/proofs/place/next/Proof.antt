@@ -3,6 +3,7 @@ use mathlib.Core.Path.{_≡_, sym}
 use Prim.Native.Nat.{_<_}
 use native.Mathlib.Omega.{arith}
 use borrow.Author.Needs.{needs}
+use Rattle.layout.specs.Flow.{mostAccesses}
 use Rattle.layout.specs.Row.{accessAt}
 use Rattle.steps.specs.Step.{writes}
 use Rattle.machine.specs.Arrays.{nextPlace}
@@ -13,7 +14,7 @@ returns : tie.Need-returns
 returns c = rw (c .before .if1 .taken) (c .after-operation .ensures)
 
 -- at any other stage the index is one of an access
-few : (c : tie.Else1) → c .before .before .args .index < 4
+few : (c : tie.Else1) → c .before .before .args .index < mostAccesses
 few c = c .before .before .pre .1 (c .if1 .left)
 
 is-write-requires : tie.Need-is-write-requires

@@ -5,6 +5,7 @@ use Prim.Native.Nat.{ℕ, _<_}
 use native.Mathlib.Omega.{arith}
 use borrow.Author.Needs.{needs}
 use lib.ListN.{getD}
+use Rattle.layout.specs.Flow.{mostCells}
 use Rattle.layout.specs.Row.{accessAt, operationAt}
 use Rattle.steps.specs.Operations.{effect, operated}
 use Rattle.steps.specs.Step.{writes}
@@ -64,7 +65,7 @@ cell-is : (c : tie.After-index)
     → c .index .result ≡ accessAt (past-operations (c .before .before) .args .row .now) (past-operations (c .before .before) .args .index) .cell
 cell-is c = rw (c .before .before .before .offset .ensures) at (c .index .ensures .0)
 
-within : (c : tie.After-index) → c .index .result < 32
+within : (c : tie.After-index) → c .index .result < mostCells
 within c =
     let start = past-operations (c .before .before) in
     rw (cell-is c) (start .pre .0 .0 .access-cells (start .args .index) (access-index (c .before .before)))

@@ -7,6 +7,7 @@ use native.Mathlib.Omega.{arith}
 use borrow.Author.Needs.{needs}
 use borrow.Author.Tests.{eq-eqb, ne-eqb}
 use lib.ListN.{getD}
+use Rattle.layout.specs.Flow.{mostCells, mostAccesses}
 use Rattle.layout.specs.Row.{accessAt}
 use Rattle.steps.specs.Machine.{Machine}
 use Rattle.steps.specs.Step.{advanced, outcome, endRead, zeroReads, writes}
@@ -34,7 +35,7 @@ returns c = let a = c .before .before .args in advances _ (a .w) (a .row .now) (
 
 -- at a wait the index is one of an access, and its cell has a counter
 known : (c : tie.Else1)
-    → (c .before .before .args .index < 4) × (accessAt (c .before .before .args .row .now) (c .before .before .args .index) .cell < 32)
+    → (c .before .before .args .index < mostAccesses) × (accessAt (c .before .before .args .row .now) (c .before .before .args .index) .cell < mostCells)
 known c = c .before .before .pre .1 (c .if1 .left)
 
 -- the cell that is read
@@ -42,7 +43,7 @@ cell-is : (c : tie.After-index)
     → c .index .result ≡ getD (c .before .before .before .before .before .args .row .now) (4 + 2 * c .before .before .before .before .before .args .index) 0
 cell-is c = rw (c .before .before .offset .ensures) at (c .index .ensures .0)
 
-within : (c : tie.After-index) → c .index .result < 32
+within : (c : tie.After-index) → c .index .result < mostCells
 within c = rw (cell-is c) (known (c .before .before .before) .1)
 
 shared-slice-read-index : tie.Need-shared-slice-read-index

@@ -9,6 +9,7 @@ use borrow.Author.Needs.{needs}
 use lib.ListN.{length}
 use types.Run.{OneOf}
 use denote.Enum.Declared.{tagOf}
+use Rattle.layout.specs.Flow.{mostCells, mostAccesses}
 use Rattle.layout.specs.Row.{accessAt}
 use Rattle.steps.specs.Machine.{Machine}
 use Rattle.steps.specs.Step.{stepped, attempted}
@@ -38,8 +39,8 @@ lent start = arrays (start .args .cells .now) (start .args .shared .now) (start 
 
 -- away from the operations the worker stands at an access
 access-at : (start : tie.Start) → (stageAt (lent start) (start .args .w) ≡ 2 → ⊥)
-    → (indexAt (lent start) (start .args .w) < 4)
-    × (accessAt (start .args .row .now) (indexAt (lent start) (start .args .w)) .cell < 32)
+    → (indexAt (lent start) (start .args .w) < mostAccesses)
+    × (accessAt (start .args .row .now) (indexAt (lent start) (start .args .w)) .cell < mostCells)
 access-at start other =
     let a = start .args in
     small-access (a .row .now) (length (a .cells .now)) (stageAt (lent start) (a .w)) (indexAt (lent start) (a .w))
