@@ -1,5 +1,5 @@
 -- What the check tells and the sum of the tasks are what is measured of the file.
-use mathlib.Core.Path.{_≡_, sym, ap, ap₂, _∙_}
+use mathlib.Core.Path.{_≡_, refl, sym, ap, ap₂, _∙_}
 use mathlib.Core.Bool.{Bool, cond}
 use mathlib.Core.List.{List}
 use Prim.Native.Nat.{ℕ, _*_, _≤_}
@@ -14,7 +14,7 @@ use Rattle.roundtrip.specs.Sound.{Sizes}
 use Rattle.roundtrip.proofs.Answers.{file-keeps, keeps-file}
 use Rattle.roundtrip.proofs.Theorems.{accepted-sound}
 use Rattle.steps.proofs.Accepted.{accepted-flow}
-use Rattle.steps.specs.Run.{totalOf, total}
+use Rattle.steps.specs.Run.{totalOf, total, mostOfTask, largestTotal}
 use Rattle.file.specs.declared.CheckAnswer.{CheckAnswer}
 use Rattle.file.specs.Promises.{CheckPromise}
 use Rattle.run.proofs.Accepted.{same-answer, accepted, tasks-are, workers-are, cells-are, tasks-held, workers-held, cells-held}
@@ -24,6 +24,10 @@ use Rattle.measure.specs.declared.Measured.{Measured}
 abbrev pub measured : ℕ → ℕ → ℕ → ℕ → ℕ → ℕ → Measured
 measured number place tasks workers cells total =
     record { number = number; place = place; tasks = tasks; workers = workers; cells = cells; total = total }
+
+-- the largest total in figures
+pub largest : largestTotal ≡ 5800
+largest = refl
 
 module _ {file : List ℕ} {met : CheckAnswer} (promised : CheckPromise file met) where
   same-number : met .number ≡ fileAnswer file .number
@@ -55,7 +59,7 @@ module _ {file : List ℕ} {met : CheckAnswer} (promised : CheckPromise file met
     some-worker = omega (arith, within .some-worker, workers-held promised none)
 
     -- an accepted file tells its sizes and its total
-    pub measure-done : (sum : ℕ) → sum ≡ totalOf (met .workers) (tasksIn file (met .tasks)) → sum ≤ 29 * met .tasks
+    pub measure-done : (sum : ℕ) → sum ≡ totalOf (met .workers) (tasksIn file (met .tasks)) → sum ≤ mostOfTask * met .tasks
         → MeasurePromise file (measured 0 0 (met .tasks) (met .workers) (met .cells) sum)
     measure-done sum e most =
         record {

@@ -2,8 +2,9 @@
 use mathlib.Core.Path.{_≡_}
 use mathlib.Core.List.{List}
 use Prim.Native.Nat.{ℕ, _≤_}
+use Rattle.layout.specs.Flow.{mostWorkers, mostCells}
 use Rattle.layout.specs.File.{fileAnswer, flowOf, tasksOf, workersOf, cellsOf, told}
-use Rattle.steps.specs.Run.{total}
+use Rattle.steps.specs.Run.{total, largestTotal}
 use Rattle.measure.specs.declared.Measured.{Measured}
 
 abbrev pub measuredOf : List ℕ → Measured
@@ -20,6 +21,6 @@ measuredOf file =
 pub record MeasurePromise (file : List ℕ) (r : Measured) : Type 0 where
   pub answer : r ≡ measuredOf file
   -- "Its largest value is 5,800": no flow's is above it
-  pub total-fits : r .total ≤ 5800
-  pub workers-fit : r .workers ≤ 8
-  pub cells-fit : r .cells ≤ 32
+  pub total-fits : r .total ≤ largestTotal
+  pub workers-fit : r .workers ≤ mostWorkers
+  pub cells-fit : r .cells ≤ mostCells

@@ -5,9 +5,10 @@ pub use turns::in_turn;
 ghost use mathlib.Core.Path.{_≡_};
 ghost use Prim.Native.Nat.{_+_, _-_, _*_, _≤_, _<_};
 ghost use lib.ListN.{length, getD};
+ghost use Rattle.layout.specs.Flow.{mostWorkers, mostAccesses};
 ghost use Rattle.layout.specs.Row.{taskOf};
 ghost use Rattle.layout.specs.File.{tasksIn};
-ghost use Rattle.steps.specs.Run.{accessSteps, totalOf};
+ghost use Rattle.steps.specs.Run.{accessSteps, totalOf, mostOfTask};
 ghost use Rattle.machine.specs.Arrays.{Ready};
 ghost use Rattle.measure.specs.Promises.{MeasurePromise};
 
@@ -23,8 +24,8 @@ pub struct Measured {
 
 // The steps of a row's accesses: 2 for each read, 4 for each write.
 fn access_steps(row: &[u8]) -> u32
-    requires { ⌜ (length (now row) ≡ 48) × (getD (now row) 1 0 ≤ 4) ⌝ }
-    ensures { λ r. ⌜ (r ≡ accessSteps (taskOf (now (row .entry)) .accesses)) × (r ≤ 16) ⌝ }
+    requires { ⌜ (length (now row) ≡ 48) × (getD (now row) 1 0 ≤ mostAccesses) ⌝ }
+    ensures { λ r. ⌜ (r ≡ accessSteps (taskOf (now (row .entry)) .accesses)) × (r ≤ 4 * mostAccesses) ⌝ }
 {
     let count = octets::index(row[1]);
     let mut steps: u32 = 0;
@@ -42,8 +43,8 @@ fn access_steps(row: &[u8]) -> u32
 
 // The total of an accepted file's tasks.
 fn tasks_total(file: &[u8], tasks: u32, workers: u32) -> u32
-    requires { ⌜ Ready (now file) tasks (getD (now file) 13 0) × (1 ≤ workers) × (workers ≤ 8) ⌝ }
-    ensures { λ r. ⌜ (r ≡ totalOf workers (tasksIn (now (file .entry)) tasks)) × (r ≤ 29 * tasks) ⌝ }
+    requires { ⌜ Ready (now file) tasks (getD (now file) 13 0) × (1 ≤ workers) × (workers ≤ mostWorkers) ⌝ }
+    ensures { λ r. ⌜ (r ≡ totalOf workers (tasksIn (now (file .entry)) tasks)) × (r ≤ mostOfTask * tasks) ⌝ }
 {
     let mut total: u32 = 0;
     let mut done: u32 = 0;

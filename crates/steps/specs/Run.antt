@@ -1,11 +1,11 @@
 -- A run under a schedule, its counts, and the flow's total (01, "The steps").
 use mathlib.Core.Bool.{Bool, cond, _&&_, _||_}
 use mathlib.Core.List.{List, [], _∷_}
-use Prim.Native.Nat.{ℕ, _+_, _-_, _<_}
+use Prim.Native.Nat.{ℕ, _+_, _-_, _*_, _<_}
 use lib.ListN.{length, getD}
 use lib.Dec.{eqb, leb, ltb}
 use Rattle.layout.specs.Lists.{each, all}
-use Rattle.layout.specs.Flow.{Access, Task, Flow}
+use Rattle.layout.specs.Flow.{Access, Task, Flow, mostTasks, mostWorkers, mostAccesses, mostOperations}
 use Rattle.steps.specs.Operations.{effect}
 use Rattle.steps.specs.Machine.{Place, Machine, fresh}
 use Rattle.steps.specs.Step.{Setting, writes, waits, ofEach, Outcome, advanced, pastLast, writeDiffers, readsDiffer, step}
@@ -84,3 +84,11 @@ totalOf workers (task ∷ tasks) =
 
 abbrev pub total : Flow → ℕ
 total flow = totalOf (flow .workers) (flow .tasks)
+
+-- the most that a task adds to it: all of its accesses are writes
+abbrev pub mostOfTask : ℕ
+mostOfTask = 4 * mostAccesses + mostOperations + (mostWorkers - 1)
+
+-- "Its largest value is 5,800"
+abbrev pub largestTotal : ℕ
+largestTotal = mostTasks * mostOfTask

@@ -6,7 +6,7 @@ use borrow.Author.Needs.{needs}
 use lib.ListN.{drop}
 use Rattle.layout.specs.Row.{taskOf}
 use Rattle.layout.specs.File.{rowAt, tasksIn}
-use Rattle.steps.specs.Run.{totalOf}
+use Rattle.steps.specs.Run.{totalOf, mostOfTask}
 use Rattle.machine.proofs.Rows.{row-there, row-fits}
 use Rattle.measure.proofs.Sums.{row-counts, task-next, task-end}
 use Rattle.measure.proofs.tasks_total.Statement.{statement}
@@ -14,7 +14,7 @@ use Rattle.measure.proofs.tasks_total.Tie as tie
 
 abbrev Inv-loop : tie.InvT-loop
 Inv-loop file tasks workers total₀ done₀ total done =
-    (done ≤ tasks) × (total ≤ 29 * done) × (totalOf workers (tasksIn file tasks) ≡ total + totalOf workers (drop done (tasksIn file tasks)))
+    (done ≤ tasks) × (total ≤ mostOfTask * done) × (totalOf workers (tasksIn file tasks) ≡ total + totalOf workers (drop done (tasksIn file tasks)))
 
 abbrev μ-loop : tie.MeasureT-loop
 μ-loop file tasks workers total₀ done₀ total done = tasks - done
