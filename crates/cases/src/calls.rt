@@ -2,11 +2,15 @@
 // After it those past the ones written are looked at, which with a refusal are all of them, and some more that were not lent.
 use crate::say;
 use crate::words::Setting;
+use flow::Flow;
 ghost use mathlib.Core.Path.{_≡_};
 ghost use Prim.Native.Nat.{_≤_};
 ghost use lib.ListN.{length};
 
 pub(crate) const MARK: u8 = 170;
+
+// The bytes of the most rows, and a hundred more.
+const LENT: usize = 48 * Flow::MAX_TASKS as usize + 100;
 
 fn least(a: usize, b: usize) -> usize
     ensures { λ r. ⌜ (r ≤ a) × (r ≤ b) ⌝ }
@@ -67,7 +71,7 @@ pub(crate) fn check(setting: Setting, file: &[u8]) {
 
 pub(crate) fn read(setting: Setting, rows: &[u8], file: &[u8]) {
     let size = least(setting.length, file.len());
-    let mut space = [MARK; 9700];
+    let mut space = [MARK; LENT];
     let lent: &mut [u8] = &mut space;
     let room = least(setting.into, lent.len());
     let answer = reader::read(&file[0..size], &mut lent[0..room]);

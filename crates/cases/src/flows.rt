@@ -1,7 +1,11 @@
 // Flow A's rows (01, "A flow on the bench").
+use flow::Flow;
 ghost use mathlib.Core.Path.{_≡_};
 ghost use Prim.Native.Nat.{_+_, _≤_};
 ghost use lib.ListN.{length};
+
+// The bytes of one row more than a flow may have.
+pub(crate) const ROWS: usize = 48 * (Flow::MAX_TASKS as usize + 1);
 
 // Puts bytes at a place.
 fn lay(bytes: &mut [u8], at: usize, given: &[u8])
@@ -47,9 +51,9 @@ fn over_and_over(rows: &mut [u8]) {
     }
 }
 
-// Flow A's three rows, over and over: 201, one more than a flow may have.
-pub(crate) fn rows() -> [u8; 9648] {
-    let mut space = [0u8; 9648];
+// Flow A's three rows, over and over.
+pub(crate) fn rows() -> [u8; ROWS] {
+    let mut space = [0u8; ROWS];
     let all: &mut [u8] = &mut space;
     task_1(&mut all[0..48]);
     task_2(&mut all[48..96]);

@@ -1,10 +1,15 @@
 // The cases, line by line and word by word. The head of the file stdin says what each word does.
 use crate::calls;
 use crate::calls::MARK;
+use crate::flows::ROWS;
 use crate::say;
 use crate::text;
+use flow::Flow;
 ghost use Prim.Native.Nat.{_<_};
 ghost use lib.ListN.{length};
+
+// The bytes of one block more than a file may have.
+const FILE: usize = Flow::MAX_BYTES + 512;
 
 // What the words so far have set: the bytes of rows, the workers and cells, the bytes that are lent, the file's length, and
 // whether a file is made.
@@ -61,8 +66,8 @@ fn assign(
     word: &[u8],
     equals: usize,
     setting: Setting,
-    rows: &mut [u8; 9648],
-    file: &mut [u8; 10752],
+    rows: &mut [u8; ROWS],
+    file: &mut [u8; FILE],
 ) -> Setting
     requires { ⌜ equals < length (now word) ⌝ }
 {
@@ -98,7 +103,7 @@ fn command(name: u8, setting: Setting, rows: &[u8], file: &mut [u8]) -> Setting 
     setting
 }
 
-fn word(word: &[u8], setting: Setting, rows: &mut [u8; 9648], file: &mut [u8; 10752]) -> Setting {
+fn word(word: &[u8], setting: Setting, rows: &mut [u8; ROWS], file: &mut [u8; FILE]) -> Setting {
     let name = text::part(word, 0, b'=');
     let equals = name.len();
     if equals < word.len() {
@@ -111,9 +116,9 @@ fn word(word: &[u8], setting: Setting, rows: &mut [u8; 9648], file: &mut [u8; 10
 }
 
 // The words of a case.
-fn each_word(words: &[u8], all: &[u8; 9648]) {
+fn each_word(words: &[u8], all: &[u8; ROWS]) {
     let mut rows = *all;
-    let mut file = [MARK; 10752];
+    let mut file = [MARK; FILE];
     let mut setting = Setting::new();
     let mut from = 0;
     while from < words.len() {
@@ -124,7 +129,7 @@ fn each_word(words: &[u8], all: &[u8; 9648]) {
 }
 
 // A line: a case, or words for the reader after a number sign.
-fn line(line: &[u8], rows: &[u8; 9648]) {
+fn line(line: &[u8], rows: &[u8; ROWS]) {
     if line.len() == 0 {
         return;
     }
@@ -139,7 +144,7 @@ fn line(line: &[u8], rows: &[u8; 9648]) {
     say::text(b"\n");
 }
 
-pub(crate) fn each_line(text: &[u8], rows: &[u8; 9648]) {
+pub(crate) fn each_line(text: &[u8], rows: &[u8; ROWS]) {
     let mut from = 0;
     while from < text.len() {
         let next = text::part(text, from, b'\n');

@@ -24,7 +24,7 @@ fn whole_blocks(bytes: usize) -> u32
     if bytes == 0 {
         return 0;
     }
-    if bytes > 512 * Flow::MAX_BLOCKS {
+    if bytes > Flow::MAX_BYTES {
         return 0;
     }
     if bytes % 512 != 0 {

@@ -34,6 +34,9 @@ impl Flow {
 
     pub const MAX_SCHEDULE: usize = 65536;
 
+    // The bytes of the longest file.
+    pub const MAX_BYTES: usize = 512 * Flow::MAX_BLOCKS;
+
     // The lengths of arrays with a place for each worker or cell that a flow can have.
     pub const ROOM_FOR_WORKERS: usize = Flow::MAX_WORKERS as usize;
 

@@ -2,6 +2,7 @@
 // name, what was answered, and the cells after. The file stdout beside src/ has what 01 says to each.
 mod say;
 
+use flow::Flow;
 use libc::STDIN_FILENO;
 
 fn plainly(name: &[u8], file: &[u8], cells: &mut [u32]) {
@@ -51,11 +52,11 @@ fn short_schedules(file: &[u8]) {
 }
 
 fn long_schedules(file: &[u8]) {
-    let most = [0u8; 65536];
+    let most = [0u8; Flow::MAX_SCHEDULE];
     scheduled(b"65536 times 0", file, &most);
-    let over = [0u8; 65537];
+    let over = [0u8; Flow::MAX_SCHEDULE + 1];
     scheduled(b"65537 times 0", file, &over);
-    let bad = [2u8; 65537];
+    let bad = [2u8; Flow::MAX_SCHEDULE + 1];
     scheduled(b"65537 times 2, 13 beside 14", file, &bad);
     other_cells(
         b"2 cells, 12 beside 13 and 14",
@@ -66,7 +67,7 @@ fn long_schedules(file: &[u8]) {
 }
 
 fn main() {
-    let mut input = [0u8; 10241];
+    let mut input = [0u8; Flow::MAX_BYTES + 1];
     let n = io::read_full(STDIN_FILENO, &mut input);
     let file = &input[..n];
     plain_cases(file);

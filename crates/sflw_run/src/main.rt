@@ -4,13 +4,15 @@ mod say;
 use flow::Flow;
 use libc::STDIN_FILENO;
 use measure::Measured;
-ghost use Prim.Native.Nat.{_≤_};
+ghost use Prim.Native.Nat.{_*_, _≤_};
 ghost use lib.ListN.{length};
+ghost use Rattle.layout.specs.Flow.{mostWorkers, mostCells};
+ghost use Rattle.steps.specs.Run.{largestTotal};
 
 // Runs a flow of these sizes with the workers in turn, and writes what came of it.
 fn run_in_turn(file: &[u8], sizes: Measured, cells: &mut [u32], schedule: &mut [u8])
-    requires { ⌜ (sizes .workers ≤ 8) × (sizes .total ≤ 5800) × (sizes .cells ≤ 32) ⌝ }
-    requires { ⌜ (32 ≤ length (now cells)) × (65536 ≤ length (now schedule)) ⌝ }
+    requires { ⌜ (sizes .workers ≤ mostWorkers) × (sizes .total ≤ largestTotal) × (sizes .cells ≤ mostCells) ⌝ }
+    requires { ⌜ (mostCells ≤ length (now cells)) × (mostWorkers * largestTotal ≤ length (now schedule)) ⌝ }
 {
     let steps = octets::offset(sizes.workers * sizes.total);
     let count = octets::offset(sizes.cells);
@@ -27,7 +29,7 @@ fn run_in_turn(file: &[u8], sizes: Measured, cells: &mut [u32], schedule: &mut [
 
 fn main() {
     // One byte more than the longest file, so that a longer input is refused for its length.
-    let mut input = [0u8; 512 * Flow::MAX_BLOCKS + 1];
+    let mut input = [0u8; Flow::MAX_BYTES + 1];
     let n = io::read_full(STDIN_FILENO, &mut input);
     let file = &input[..n];
     let sizes = measure::measure(file);

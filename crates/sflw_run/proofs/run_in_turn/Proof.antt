@@ -1,4 +1,4 @@
--- `run_in_turn` is safe and ends: workers times total is at most 46,400, which the schedule holds, and the cells are at most 32.
+-- `run_in_turn` is safe and ends: the schedule holds the most workers times the largest total, and there are no more cells than a flow can have.
 use mathlib.Core.Path.{_≡_, sym}
 use mathlib.Core.List.{List, _++_}
 use Prim.Native.Nat.{ℕ, _*_, _≤_}
@@ -7,10 +7,12 @@ use native.Mathlib.Omega.{arith}
 use lib.ListN.{length, take, drop}
 use lib.Seq.{length-take-le, length-front}
 use borrow.Author.Needs.{needs}
+use Rattle.layout.specs.Flow.{mostWorkers}
+use Rattle.steps.specs.Run.{largestTotal}
 use Rattle.sflw_run.proofs.run_in_turn.Statement.{statement}
 use Rattle.sflw_run.proofs.run_in_turn.Tie as tie
 
-steps-fit : (workers total : ℕ) → workers ≤ 8 → total ≤ 5800 → workers * total ≤ 46400
+steps-fit : (workers total : ℕ) → workers ≤ mostWorkers → total ≤ largestTotal → workers * total ≤ mostWorkers * largestTotal
 steps-fit workers total h l = omega (arith, mul-le-mul-right total h)
 
 -- a part that was lent came back with its length

@@ -19,4 +19,4 @@ returns-4 c = counted 512 mostBytes _ (c .before .before .if1 .left) (c .before 
 
 pub whole-blocks-spec : {M : Type 1} → statement M
 whole-blocks-spec =
-    tie.close (tie.spec returns (λ c. search needs) returns-2 returns-3 (λ c. search needs) returns-4)
+    tie.close (tie.spec returns returns-2 returns-3 (λ c. search needs) returns-4)
