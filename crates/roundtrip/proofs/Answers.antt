@@ -9,7 +9,7 @@ use borrow.Author.Tests.{eqb-true, eq-eqb, leb-true, le-leb}
 use lib.ListN.{length}
 use lib.Dec.{lit<}
 use Rattle.layout.specs.Refusal.{Answer, success, refusal, unless, orElse, firstAt}
-use Rattle.layout.specs.Flow.{inRange}
+use Rattle.layout.specs.Flow.{mostBytes, mostRowBytes, inRange}
 use Rattle.layout.specs.Row.{rowRefusal}
 use Rattle.layout.specs.File.{fileAnswer, lengthSound, blocksOf, tasksOf, blockNumber, rowNumber}
 use Rattle.layout.specs.Write.{rowsAnswer, rowsSound, rowCount, rowOfTask}
@@ -20,7 +20,7 @@ use Rattle.roundtrip.specs.Sound.{Sizes}
 
 pub record FileKept (file : List ℕ) : Type 0 where
   pub some-byte : 1 ≤ length file
-  pub bytes-fit : length file ≤ 10240
+  pub bytes-fit : length file ≤ mostBytes
   pub whole-blocks : length file % 512 ≡ 0
   pub blocks : (i : ℕ) → i < blocksOf file → blockNumber file i ≡ 0
   pub rows : (i : ℕ) → i < tasksOf file → rowNumber file (i + 1) ≡ 0
@@ -54,7 +54,7 @@ module _ (file : List ℕ) where
 
 pub record RowsKept (rows : List ℕ) (workers cells : ℕ) : Type 0 where
   pub some-byte : 1 ≤ length rows
-  pub bytes-fit : length rows ≤ 9600
+  pub bytes-fit : length rows ≤ mostRowBytes
   pub whole-rows : length rows % 48 ≡ 0
   pub sizes : Sizes (rowCount rows) workers cells
   pub each-row : (i : ℕ) → i < rowCount rows → rowRefusal workers cells (rowOfTask rows (i + 1)) ≡ 0

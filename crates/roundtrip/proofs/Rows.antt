@@ -10,6 +10,7 @@ use lib.ListN.{length, take, drop, length-drop, take-append-drop}
 use lib.Seq.{take-all, drop-drop}
 use Rattle.layout.specs.Lists.{each, all, joined}
 use Rattle.layout.specs.Bytes.{IsBytes, at, word, part, allZero, padded}
+use Rattle.layout.specs.Flow.{mostAccesses, mostOperations}
 use Rattle.layout.specs.Row.{accessAt, operationAt, spareAt, taskOf, accessBytes, operationBytes, rowOf}
 use Rattle.layout.specs.Row.{accessInRange, accessesSound, namedOnce, operationInRange, operationSound, operationsSound}
 use Rattle.layout.specs.Row.{modesSound, rowRefusal}
@@ -23,8 +24,8 @@ use Rattle.roundtrip.proofs.Kept.{rule-kept, and-iff}
 pub record Counts (workers : ℕ) (row : List ℕ) : Type 0 where
   pub owner : at row 0 < workers
   pub some-access : 1 ≤ at row 1
-  pub accesses-fit : at row 1 ≤ 4
-  pub operations-fit : at row 2 ≤ 6
+  pub accesses-fit : at row 1 ≤ mostAccesses
+  pub operations-fit : at row 2 ≤ mostOperations
   pub spare : at row 3 ≡ 0
 
 pub record RowKept (workers cells : ℕ) (row : List ℕ) : Type 0 where
