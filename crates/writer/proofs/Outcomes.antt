@@ -14,7 +14,7 @@ use Rattle.layout.specs.File.{lentAfter}
 use Rattle.layout.specs.Write.{rowCount, fileOf, rowsAnswer, writeAnswer}
 use Rattle.layout.proofs.Blocks.{in-range}
 use Rattle.flow.specs.declared.Flow.{Flow}
-use Rattle.flow.proofs.Answers.{Kept}
+use Rattle.flow.proofs.Answers.{MadeAs}
 use Rattle.file.specs.declared.Answer.{Answer}
 use Rattle.file.specs.Answers.{answerOf}
 use Rattle.file.proofs.Whole.{WholePieces}
@@ -54,7 +54,7 @@ writeAll blocks = record { number = 0; place = 0; bytes = 512 * blocks }
 -- the flow is made of given rows, which are whole rows
 pub record FlowMade (rows : List ℕ) (tasks workers cells : ℕ) (flow : Flow) : Type 0 where
   pub whole : WholePieces 48 mostRowBytes (length rows) tasks
-  pub made : Kept flow tasks workers cells
+  pub made : MadeAs flow tasks workers cells
 
 pub record FlowFits (rows : List ℕ) (flow : Flow) : Type 0 where
   pub is-whole : length rows ≡ 48 * flow .tasks
