@@ -1,6 +1,7 @@
 -- What the check answers follows from the answer that its rules give: with a refusal every size is 0, and with success the sizes are
--- told. What a call that goes on after the check has of it: the same answer, and in an accepted file the rows.
-use mathlib.Core.Path.{_≡_, sym, ap, _∙_}
+-- told. What a call that goes on after the check has of it: the same answer, and of an accepted file the sizes, which are within the
+-- limits, the rows and the flow.
+use mathlib.Core.Path.{_≡_, sym, ap, subst, _∙_}
 use mathlib.Core.List.{List}
 use Prim.Native.Nat.{ℕ, _*_, _≤_}
 use native.Mathlib.Omega.{arith}
@@ -9,7 +10,8 @@ use lib.ListN.{length}
 use Rattle.layout.specs.Refusal as Rules
 use Rattle.layout.specs.Refusal.{success, refusal}
 use Rattle.layout.specs.Block.{blocksFor}
-use Rattle.layout.specs.File.{tasksOf, fileAnswer, lentAfter}
+use Rattle.layout.specs.File.{tasksOf, workersOf, cellsOf, fileAnswer, flowOf, tasksIn, lentAfter}
+use Rattle.roundtrip.specs.Sound.{Sizes as WithinLimits}
 use Rattle.roundtrip.proofs.Answers.{FileKept, file-keeps, keeps-file}
 use Rattle.roundtrip.proofs.Read.{fewest, file-sizes}
 use Rattle.block.specs.declared.Sizes.{Sizes}
@@ -38,10 +40,10 @@ abbrev pub checkAll : Sizes → CheckAnswer
 checkAll sizes = record { number = 0; place = 0; tasks = sizes .tasks; workers = sizes .workers; cells = sizes .cells }
 
 module _ (file : List ℕ) (none : fileAnswer file .number ≡ 0) where
-  kept : FileKept file
+  pub kept : FileKept file
   kept = file-keeps file none
 
-  succeeds : success ≡ fileAnswer file
+  pub succeeds : success ≡ fileAnswer file
   succeeds = sym (keeps-file file kept)
 
   pub some-block : 512 ≤ length file
@@ -71,8 +73,33 @@ module _ {file : List ℕ} {met : CheckAnswer} (promised : CheckPromise file met
     pub met-is : met ≡ checkWith success file
     met-is = promised .answer ∙ ap (λ (a : Rules.Answer). checkWith a file) (sym (succeeds file accepted))
 
+    -- its sizes
     pub tasks-are : met .tasks ≡ tasksOf file
     tasks-are = ap (λ (a : CheckAnswer). a .tasks) met-is
 
+    pub workers-are : met .workers ≡ workersOf file
+    workers-are = ap (λ (a : CheckAnswer). a .workers) met-is
+
+    pub cells-are : met .cells ≡ cellsOf file
+    cells-are = ap (λ (a : CheckAnswer). a .cells) met-is
+
+    pub within : WithinLimits (met .tasks) (met .workers) (met .cells)
+    within =
+        subst (λ (a : CheckAnswer). WithinLimits (a .tasks) (a .workers) (a .cells)) (sym met-is) (file-sizes file (kept file accepted))
+
+    -- where its rows stand
     pub rows-fit : (length file ≡ 512 * blocksFor (met .tasks)) × (met .tasks ≤ 200)
-    rows-fit = omega (arith, tasks-are, rows-stand file accepted, file-sizes file (kept file accepted))
+    rows-fit = omega (arith, tasks-are, rows-stand file accepted, within)
+
+    -- the flow that it is accepted as
+    pub tasks-held : tasksIn file (met .tasks) ≡ flowOf file .tasks
+    unfolding flowOf
+    tasks-held = ap (tasksIn file) tasks-are
+
+    pub workers-held : met .workers ≡ flowOf file .workers
+    unfolding flowOf
+    workers-held = workers-are
+
+    pub cells-held : met .cells ≡ flowOf file .cells
+    unfolding flowOf
+    cells-held = cells-are

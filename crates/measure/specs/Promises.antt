@@ -3,20 +3,26 @@ use mathlib.Core.Path.{_≡_}
 use mathlib.Core.List.{List}
 use Prim.Native.Nat.{ℕ, _≤_}
 use Rattle.layout.specs.Flow.{mostWorkers, mostCells}
+use Rattle.layout.specs.Refusal.{Answer}
 use Rattle.layout.specs.File.{fileAnswer, flowOf, tasksOf, workersOf, cellsOf, told}
 use Rattle.steps.specs.Run.{total, largestTotal}
 use Rattle.measure.specs.declared.Measured.{Measured}
 
-abbrev pub measuredOf : List ℕ → Measured
-measuredOf file =
+-- what is told with a number and a place that are met
+abbrev pub measuredWith : Answer → List ℕ → Measured
+measuredWith met file =
     record {
-      number = fileAnswer file .number;
-      place = fileAnswer file .place;
-      tasks = told (fileAnswer file) (tasksOf file);
-      workers = told (fileAnswer file) (workersOf file);
-      cells = told (fileAnswer file) (cellsOf file);
-      total = told (fileAnswer file) (total (flowOf file));
+      number = met .number;
+      place = met .place;
+      tasks = told met (tasksOf file);
+      workers = told met (workersOf file);
+      cells = told met (cellsOf file);
+      total = told met (total (flowOf file));
     }
+
+-- with the check's
+abbrev pub measuredOf : List ℕ → Measured
+measuredOf file = measuredWith (fileAnswer file) file
 
 pub record MeasurePromise (file : List ℕ) (r : Measured) : Type 0 where
   pub answer : r ≡ measuredOf file

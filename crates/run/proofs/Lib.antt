@@ -1,5 +1,4 @@
 -- Laws that the proofs of the runs cite.
-pub mod Accepted
 pub mod Demand
 pub mod Done
 pub mod OneByOne

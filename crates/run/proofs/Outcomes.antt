@@ -14,7 +14,6 @@ use Rattle.layout.specs.Refusal as Rules
 use Rattle.layout.specs.Refusal.{success, refusal, unless, orElse, firstAt}
 use Rattle.layout.specs.File.{fileAnswer, flowOf, tasksIn}
 use Rattle.roundtrip.proofs.Kept.{kept, second-given, none-at, success-at}
-use Rattle.roundtrip.proofs.Answers.{file-keeps}
 use Rattle.roundtrip.proofs.Accepted.{flow-sound}
 use Rattle.steps.specs.Operations.{effect}
 use Rattle.steps.specs.Plain.{afterTasks}
@@ -26,9 +25,9 @@ use Rattle.file.specs.declared.CheckAnswer.{CheckAnswer}
 use Rattle.file.specs.Answers.{answerOf}
 use Rattle.file.specs.Promises.{CheckPromise}
 use Rattle.file.proofs.Order.{first-given}
+use Rattle.file.proofs.Outcomes.{kept as file-kept, same-answer, accepted, tasks-held, workers-held, cells-held}
 use Rattle.run.specs.declared.RunAnswer.{RunAnswer}
 use Rattle.run.specs.Promises.{plainIs, runIs, runRefused, PlainPromise, RunPromise, Walked}
-use Rattle.run.proofs.Accepted.{same-answer, accepted, tasks-held, workers-held, cells-held}
 
 -- ---- the plain run
 
@@ -142,7 +141,7 @@ module _ {file : List ℕ} {met : CheckAnswer} (promised : CheckPromise file met
       -- the steps that advance are at most the flow's total
       within-total : ran file cells schedule .advanced ≤ total (flowOf file)
       within-total =
-          let sound = flow-sound file (file-keeps file (accepted promised none)) in
+          let sound = flow-sound file (file-kept file (accepted promised none)) in
           total-bound (settingOf (flowOf file)) (flowOf file .workers) (λ i h. sound .each-task i _ h .owned)
           (λ i h. sound .each-task i _ h .some-access) cells schedule
           (λ i h. subst (λ (n : ℕ). getD schedule i 0 < n) (workers-held promised none) (names i h))

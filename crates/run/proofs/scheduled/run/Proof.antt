@@ -4,7 +4,8 @@ use native.Mathlib.Omega.{arith}
 use borrow.Author.Needs.{needs}
 use lib.ListN.{length}
 use Rattle.layout.specs.Refusal.{refusal}
-use Rattle.run.proofs.Accepted.{ready, few-workers}
+use Rattle.file.proofs.Outcomes.{within}
+use Rattle.machine.proofs.Accepted.{ready}
 use Rattle.run.proofs.Outcomes.{file-refused, cells-refused, plain-passed-on, run-refused, too-long, names-answer, names, run-done}
 use Rattle.run.proofs.scheduled.run.Statement.{statement}
 use Rattle.run.proofs.scheduled.run.Tie as tie
@@ -53,7 +54,7 @@ walk-requires c κs =
     let promised = c .before .before .before .before .before .before .before .before .before .check .ensures in
     let none = c .before .before .before .before .before .before .before .if1 .left in
     let short = c .before .before .before .before .if3 .left in (
-      (ready promised none (length (a .cells .now)) (sized (c .before .before .before .before .before)), few-workers promised none, short),
+      (ready promised none (length (a .cells .now)) (sized (c .before .before .before .before .before)), within promised none .workers-fit, short),
       names promised none (a .cells .now) (sized (c .before .before .before .before .before)) (a .schedule .now) short (c .before .before .before .schedule-met .ensures) (c .before .if4 .left),
     )
 
