@@ -1,25 +1,31 @@
 -- A step of the code is a step of the rules. An own step that advances changes the cells and the counters as the rules do and stores
 -- the next place, and one that is held stores nothing; a task of another owner is noted access by access and gone past.
 use mathlib.Core.Path.{_≡_, refl, sym, ap, subst, _∙_}
-use mathlib.Core.Bool.{Bool, true, false, cond}
-use mathlib.Core.Logic.{_⊎_, inl, inr}
+use mathlib.Core.Bool.{Bool, true, false, cond, true≢false}
+use mathlib.Core.Logic.{⊎-elim}
 use mathlib.Core.List.{List, [], _∷_}
 use Prim.Native.Nat.{ℕ, _+_, _<_, _≤_}
 use native.Mathlib.Omega.{arith}
 use borrow.Author.Tests.{eq-eqb, ne-eqb}
 use lib.ListN.{length, getD, set, drop, length-set}
 use lib.Dec.{eqb}
+use types.Run.{OneOf}
+use denote.Enum.Declared.{tagOf}
 use Rattle.layout.specs.Flow.{Access, Task, mostWorkers, mostCells}
 use Rattle.layout.specs.Row.{taskOf}
 use Rattle.layout.specs.File.{rowAt, tasksIn}
 use Rattle.layout.proofs.Modes.{each-drop, each-drop-all}
 use Rattle.steps.specs.Operations.{Effect, effect}
 use Rattle.steps.specs.Machine.{Place, Machine, place, withRow, withPlace}
-use Rattle.steps.specs.Step.{Try, waitWrite, waitReads, operate, endRead, zeroReads, postWrite, Outcome, advanced, pastLast, outcome, registerAll, change, ownSteps, moved, stepped, attempted, ownStep, otherStep, stepFrom, step}
-use Rattle.machine.specs.Arrays.{Arrays, arrays, machineOf, placeOf, tryAt, Stands, nextPlace, madeIn, madeAt, notedAll, Shape, RowFits, Ready, Standing, Steppable, settingIn, passedAt, stageAt, indexAt, OwnStep, StepDone}
+use Rattle.steps.specs.Step.{Try, waitWrite, waitReads, operate, endRead, zeroReads, postWrite, Outcome, advanced, pastLast, writeDiffers, readsDiffer, outcome, registerAll, change, ownSteps, moved, stepped, attempted, ownStep, otherStep, stepFrom, step}
+use Rattle.machine.specs.declared.Outcome as Code
+use Rattle.machine.specs.declared.Outcome.the-variants.{Advanced, PastLast, WriteDiffers, ReadsDiffer}
+use Rattle.machine.specs.Outcomes.{outcomeOf}
+use Rattle.machine.specs.Arrays.{Arrays, arrays, machineOf, placeOf, tryAt, Stands, nextPlace, madeIn, madeAt, notedAll, Shape, RowFits, Ready, Standing, Steppable, settingIn, passedAt, stageAt, indexAt, movesOn, goesTo, placesAfter, OwnStep, StepDone}
 use Rattle.machine.proofs.Places.{access-count, access-there, try-there, next-there, next-stands, none-made}
 use Rattle.machine.proofs.Machines.{stored-at, all-noted-only, row-replaced, place-stored, outcome-of, change-of}
 use Rattle.machine.proofs.Changes.{Changed}
+use Rattle.machine.proofs.Outcome.{the-type}
 
 -- ---- an own step
 
@@ -32,6 +38,21 @@ change-size does number m w (operate o) = length-set (m .cells) (o .a) (does o (
 change-size does number m w (endRead c) = refl
 change-size does number m w (zeroReads c) = refl
 change-size does number m w (postWrite c) = refl
+
+-- the outcomes whose tags the code tells from that of an advancing step are those with which the worker stays
+pub stays : (why : Code.Outcome) → OneOf (1 ∷ 2 ∷ 3 ∷ []) (tagOf the-type why) → movesOn (outcomeOf why) ≡ false
+stays Advanced keys = absurd (⊎-elim (λ one. omega arith) (⊎-elim (λ two. omega arith) (λ three. omega arith)) keys)
+stays PastLast keys = refl
+stays (WriteDiffers cell) keys = refl
+stays (ReadsDiffer cell) keys = refl
+
+-- and then the machine is left
+held-back : (why : Outcome) → movesOn why ≡ false → (m after : Machine) → stepped why m ≡ attempted why m after
+unfolding attempted
+held-back advanced held m after = absurd (true≢false held)
+held-back pastLast held m after = refl
+held-back (writeDiffers cell) held m after = refl
+held-back (readsDiffer cell) held m after = refl
 
 module _ (row : List ℕ) (w : ℕ) (kept : Arrays) where
   abbrev try : Try
@@ -58,7 +79,8 @@ module _ (row : List ℕ) (w : ℕ) (kept : Arrays) where
         cells-size =
             ap (λ (m : Machine). length (m .cells)) (changed .1)
             ∙ change-size effect number (machineOf [] (arrays (kept .cells) (kept .shared) (kept .private) [])) w try;
-        place-is = inr (ap (set (kept .places) w) is);
+        places-are =
+            ap (set (kept .places) w) is ∙ ap (λ (y : Outcome). placesAfter y (kept .places) w then) (sym e);
         machine-is = λ tasks.
             let m = machineOf tasks kept in
             let changed-to = change effect number m w try in
@@ -75,17 +97,17 @@ module _ (row : List ℕ) (w : ℕ) (kept : Arrays) where
   -- the counters say why it is held
   pub own-step-held : (why : Outcome) → Shape (kept .shared) (kept .private)
       → why ≡ outcome (machineOf [] (arrays [] (kept .shared) (kept .private) [])) w try
-      → ((m after : Machine) → stepped why m ≡ attempted why m after)
+      → movesOn why ≡ false
       → OwnStep row w kept why kept
   own-step-held why shape told held =
       record {
         shape = shape;
         cells-size = refl;
-        place-is = inl refl;
+        places-are = sym (ap (λ (b : Bool). cond b (set (kept .places) w then) (kept .places)) held);
         machine-is = λ tasks.
             let m = machineOf tasks kept in
             let made = withPlace (change effect number m w try) w (placeOf tasks then) in
-            held m made ∙ ap (λ (y : Outcome). attempted y m made) (told ∙ outcome-of tasks kept w try);
+            held-back why held m made ∙ ap (λ (y : Outcome). attempted y m made) (told ∙ outcome-of tasks kept w try);
       }
 
 -- ---- a step of a named worker
@@ -123,6 +145,7 @@ module _ (file : List ℕ) (tasks w : ℕ) (kept : Arrays) (sound : Steppable fi
   step-past l =
       record {
         sound = sound;
+        places-are = refl;
         machine-is = ap (stepFrom (settingIn file tasks) m w) (sym (each-drop-all tasks (λ i. taskOf (rowAt file (i + 1))) passed l));
       }
 
@@ -135,6 +158,12 @@ module _ (file : List ℕ) (tasks w : ℕ) (kept : Arrays) (sound : Steppable fi
 
     stands : Stands row (stageAt kept w) (indexAt kept w)
     stands = sound .standing .stands w h l
+
+    -- where the worker moves on to, by whether it owns the task
+    goes-to : (isOwner : Bool) → eqb (getD row 0 0) w ≡ isOwner
+        → cond isOwner (nextPlace row passed (stageAt kept w) (indexAt kept w)) ((passed + 1) ∷ 0 ∷ 0 ∷ []) ≡ goesTo file kept w
+    goes-to isOwner t =
+        ap (λ (b : Bool). cond b (nextPlace row passed (stageAt kept w) (indexAt kept w)) ((passed + 1) ∷ 0 ∷ 0 ∷ [])) (sym t)
 
     -- the step at the task there, by whether the worker owns it
     step-at : (isOwner : Bool) → eqb (getD row 0 0) w ≡ isOwner
@@ -174,6 +203,7 @@ module _ (file : List ℕ) (tasks w : ℕ) (kept : Arrays) (sound : Steppable fi
                     standing-kept file tasks (kept .places) w next (sound .standing) has-place
                     (λ more. sound .ready .rows (passed + 1 + 1) (omega arith) (omega arith) .some-access);
               };
+          places-are = ap (set (kept .places) w) (goes-to false (ne-eqb (getD row 0 0) w other));
           machine-is =
               ap (stepped advanced)
               (ap (λ (p : List (List (List ℕ))). machineOf all (arrays (kept .cells) (kept .shared) p (set (kept .places) w next))) is
@@ -197,9 +227,10 @@ module _ (file : List ℕ) (tasks w : ℕ) (kept : Arrays) (sound : Steppable fi
               record {
                 ready = subst (Ready file tasks) (sym (own .cells-size)) (sound .ready);
                 shape = own .shape;
-                places-size = stand (own .place-is) .0;
-                standing = stand (own .place-is) .1;
+                places-size = stand (movesOn why) (own .places-are) .0;
+                standing = stand (movesOn why) (own .places-are) .1;
               };
+          places-are = own .places-are ∙ ap (placesAfter why (kept .places) w) (goes-to true (eq-eqb (getD row 0 0) w owner));
           machine-is =
               own .machine-is all
               ∙ ap (λ (to : Place). attempted (outcome m w try-here) m (withPlace (change effect (passed + 1) m w try-here) w to))
@@ -234,9 +265,9 @@ module _ (file : List ℕ) (tasks w : ℕ) (kept : Arrays) (sound : Steppable fi
         Stand : List (List ℕ) → Type 0
         Stand to = (length to ≡ mostWorkers) × Standing file tasks to
 
-        stand : (after .places ≡ kept .places) ⊎ (after .places ≡ set (kept .places) w next) → Stand (after .places)
-        stand (inl e) = subst Stand (sym e) (sound .places-size, sound .standing)
-        stand (inr e) =
+        stand : (b : Bool) → after .places ≡ cond b (set (kept .places) w next) (kept .places) → Stand (after .places)
+        stand false e = subst Stand (sym e) (sound .places-size, sound .standing)
+        stand true e =
             subst Stand (sym e) (
               length-set (kept .places) w next ∙ sound .places-size,
               standing-kept file tasks (kept .places) w next (sound .standing) has-place (next-stands file tasks passed stage index some l stands next refl),

@@ -8,12 +8,11 @@
 --     stage 3   it ends the access at the index; of a write, it sets the shared reads to 0
 --     stage 4   it posts that access, a write
 use mathlib.Core.Path.{_≡_}
-use mathlib.Core.Bool.{Bool, true, cond}
-use mathlib.Core.Logic.{_⊎_}
+use mathlib.Core.Bool.{Bool, true, false, cond}
 use mathlib.Core.List.{List, [], _∷_}
 use Prim.Native.Nat.{ℕ, zero, suc, _+_, _*_, _<_, _≤_}
 use lib.ListN.{length, getD, drop, set}
-use lib.Dec.{ltb}
+use lib.Dec.{eqb, ltb}
 use Rattle.layout.specs.Flow.{Access, Task, mostTasks, mostWorkers, mostCells, mostAccesses, mostOperations, mostSchedule}
 use Rattle.layout.specs.Row.{accessAt, operationAt}
 use Rattle.layout.specs.Block.{blocksFor}
@@ -21,7 +20,7 @@ use Rattle.layout.specs.File.{rowAt, tasksIn}
 use Rattle.steps.specs.Operations.{effect}
 use Rattle.steps.specs.Machine.{Counter, Place, Machine, counter, place, withPlace}
 use Rattle.steps.specs.Run.{settingFor}
-use Rattle.steps.specs.Step.{Try, waitWrite, waitReads, operate, endRead, zeroReads, postWrite, writes, Setting, Outcome, outcome, change, stepped, attempted, step}
+use Rattle.steps.specs.Step.{Try, waitWrite, waitReads, operate, endRead, zeroReads, postWrite, writes, Setting, Outcome, advanced, pastLast, writeDiffers, readsDiffer, outcome, change, stepped, attempted, step}
 
 -- ---- counters
 
@@ -216,12 +215,30 @@ Changed row w number stage index before after =
     Shape (after .shared) (after .private)
     × (machineOf [] after ≡ change effect number (machineOf [] before) w (tryAt row stage index))
 
+-- whether the worker moves on after a step with this outcome
+abbrev pub movesOn : Outcome → Bool
+movesOn advanced = true
+movesOn pastLast = false
+movesOn (writeDiffers cell) = false
+movesOn (readsDiffer cell) = false
+
+-- where it moves on to: in its own task to the next own step, and past a task of another owner
+abbrev pub goesTo : List ℕ → Arrays → ℕ → List ℕ
+goesTo file before w =
+    cond (eqb (getD (rowAt file (passedAt before w + 1)) 0 0) w)
+    (nextPlace (rowAt file (passedAt before w + 1)) (passedAt before w) (stageAt before w) (indexAt before w))
+    ((passedAt before w + 1) ∷ 0 ∷ 0 ∷ [])
+
+-- the places after a step: the worker's is the next where it moves on, and all others stay
+abbrev pub placesAfter : Outcome → List (List ℕ) → ℕ → List ℕ → List (List ℕ)
+placesAfter why places w next = cond (movesOn why) (set places w next) places
+
 -- the owner's next own step, made or held
 pub record OwnStep (row : List ℕ) (w : ℕ) (before : Arrays) (why : Outcome) (after : Arrays) : Type 0 where
   pub shape : Shape (after .shared) (after .private)
   pub cells-size : length (after .cells) ≡ length (before .cells)
-  pub place-is : (after .places ≡ before .places)
-      ⊎ (after .places ≡ set (before .places) w (nextPlace row (passedAt before w) (stageAt before w) (indexAt before w)))
+  pub places-are : after .places
+      ≡ placesAfter why (before .places) w (nextPlace row (passedAt before w) (stageAt before w) (indexAt before w))
   pub machine-is : (tasks : List Task)
       → stepped why (machineOf tasks after)
       ≡ attempted (outcome (machineOf tasks before) w (tryAt row (stageAt before w) (indexAt before w))) (machineOf tasks before)
@@ -233,4 +250,5 @@ pub record OwnStep (row : List ℕ) (w : ℕ) (before : Arrays) (why : Outcome) 
 -- a step of a named worker
 pub record StepDone (file : List ℕ) (tasks w : ℕ) (before : Arrays) (why : Outcome) (after : Arrays) : Type 0 where
   pub sound : Steppable file tasks after
+  pub places-are : after .places ≡ placesAfter why (before .places) w (goesTo file before w)
   pub machine-is : stepped why (machineOf (tasksIn file tasks) after) ≡ step (settingIn file tasks) (machineOf (tasksIn file tasks) before) w

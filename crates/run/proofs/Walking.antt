@@ -1,8 +1,7 @@
 -- A run under a schedule, taken byte by byte: the machine that the arrays stand for, run over the bytes left, gives what the whole schedule
 -- gives from the start, since each step of the code is a step of the rules and is counted as they count it.
 use mathlib.Core.Path.{_≡_, refl, sym, ap, subst, fun-ext, _∙_}
-use mathlib.Core.Bool.{cond}
-use mathlib.Core.Logic.{⊎-elim}
+use mathlib.Core.Bool.{false, cond, true≢false}
 use mathlib.Core.List.{List, [], _∷_}
 use Prim.Native.Nat.{ℕ, zero, suc, _+_, _*_, _<_, _≤_}
 use native.Mathlib.Numerals.{add-one}
@@ -25,8 +24,9 @@ use Rattle.machine.specs.declared.Outcome.{Outcome}
 use Rattle.machine.specs.declared.Outcome.the-variants.{Advanced, PastLast, WriteDiffers, ReadsDiffer}
 use Rattle.machine.proofs.Outcome.{the-type}
 use Rattle.machine.specs.Outcomes.{outcomeOf}
-use Rattle.machine.specs.Arrays.{counterOf, counterAt, placeOf, Arrays, arrays, machineOf, Stands, Ready, mostReads, ReadsAtMost, Steppable, settingIn, StepDone}
+use Rattle.machine.specs.Arrays.{counterOf, counterAt, placeOf, Arrays, arrays, machineOf, Stands, Ready, mostReads, ReadsAtMost, Steppable, settingIn, movesOn, StepDone}
 use Rattle.machine.proofs.Places.{none-made}
+use Rattle.machine.proofs.Steps.{stays}
 use Rattle.machine.proofs.Growth.{more-reads, file-step-reads}
 use Rattle.run.specs.Promises.{Walked}
 
@@ -46,14 +46,13 @@ freshArrays cells = arrays cells noCounters (replicate mostWorkers noCounters) (
 
 -- ---- a step that was held is counted as such
 
-held-counted : (before : Run) (m : Machine) (why : Outcome) → OneOf (1 ∷ 2 ∷ 3 ∷ []) (tagOf the-type why)
+held-counted : (before : Run) (m : Machine) (why : Outcome) → movesOn (outcomeOf why) ≡ false
     → counted before (outcomeOf why) m ≡ record { machine = m; advanced = before .advanced; held = before .held + 1 }
 unfolding counted
-held-counted before m Advanced keys =
-    absurd (⊎-elim (λ one. omega arith) (⊎-elim (λ two. omega arith) (λ three. omega arith)) keys)
-held-counted before m PastLast keys = refl
-held-counted before m (WriteDiffers cell) keys = refl
-held-counted before m (ReadsDiffer cell) keys = refl
+held-counted before m Advanced stayed = absurd (true≢false stayed)
+held-counted before m PastLast stayed = refl
+held-counted before m (WriteDiffers cell) stayed = refl
+held-counted before m (ReadsDiffer cell) stayed = refl
 
 module _ (file : List ℕ) (tasks : ℕ) where
   abbrev held-in : List Task
@@ -171,7 +170,7 @@ module _ (file : List ℕ) (tasks : ℕ) where
           → Walking start schedule (passed + 1) advanced′ held′ after
       hold-walked why advanced′ held′ keys done a h =
           stepped-on (outcomeOf why) advanced′ held′ done (omega (arith, walking .counts))
-          (held-counted (runOf kept advanced held) (machineOf held-in after) why keys ∙ (λ i. runOf after (sym a i) (sym h i)))
+          (held-counted (runOf kept advanced held) (machineOf held-in after) why (stays why keys) ∙ (λ i. runOf after (sym a i) (sym h i)))
 
   -- ---- after the last byte
 

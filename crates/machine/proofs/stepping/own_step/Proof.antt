@@ -1,37 +1,18 @@
 -- `machine::stepping::own_step` meets its contract: an own step that advances is changed and moved on as the rules say, and one
 -- that is held stores nothing.
-use mathlib.Core.Path.{_≡_, refl, ap}
-use mathlib.Core.Logic.{⊎-elim}
-use mathlib.Core.List.{[], _∷_}
+use mathlib.Core.Path.{_≡_, ap}
 use Prim.Native.Nat.{_<_}
 use native.Mathlib.Omega.{arith}
 use borrow.Author.Needs.{needs}
 use lib.ListN.{length}
-use types.Run.{OneOf}
-use denote.Enum.Declared.{tagOf}
 use Rattle.layout.specs.Flow.{mostCells, mostAccesses}
 use Rattle.layout.specs.Row.{accessAt}
-use Rattle.steps.specs.Machine.{Machine}
-use Rattle.steps.specs.Step.{stepped, attempted}
-use Rattle.machine.specs.declared.Outcome.{Outcome}
-use Rattle.machine.specs.declared.Outcome.the-variants.{Advanced, PastLast, WriteDiffers, ReadsDiffer}
 use Rattle.machine.specs.Arrays.{Arrays, arrays, stageAt, indexAt}
 use Rattle.machine.specs.Outcomes.{outcomeOf}
-use Rattle.machine.proofs.Outcome as declared
 use Rattle.machine.proofs.Changes.{five-stages, small-access, small-index}
-use Rattle.machine.proofs.Steps.{own-step-made, own-step-held}
+use Rattle.machine.proofs.Steps.{stays, own-step-made, own-step-held}
 use Rattle.machine.proofs.stepping.own_step.Statement.{statement}
 use Rattle.machine.proofs.stepping.own_step.Tie as tie
-
--- a step with any other outcome than that it advances leaves the machine
-held-back : (why : Outcome) → OneOf (1 ∷ 2 ∷ 3 ∷ []) (tagOf declared.the-type why) → (m after : Machine)
-    → stepped (outcomeOf why) m ≡ attempted (outcomeOf why) m after
-unfolding attempted
-held-back Advanced keys m after =
-    absurd (⊎-elim (λ one. omega arith) (⊎-elim (λ two. omega arith) (λ three. omega arith)) keys)
-held-back PastLast keys m after = refl
-held-back (WriteDiffers cell) keys m after = refl
-held-back (ReadsDiffer cell) keys m after = refl
 
 -- what is lent where the function starts
 abbrev lent : tie.Start → Arrays
@@ -96,7 +77,7 @@ returns-2 c =
     let a = start .args in
     let held = c .before .held in
     own-step-held (a .row .now) (a .w) (lent start) (outcomeOf (held .result)) (start .pre .1 .1 .0) (held .ensures)
-    (held-back (held .result) (c .match .keys2))
+    (stays (held .result) (c .match .keys2))
 
 pub own-step-spec : {M : Type 1} → statement M
 own-step-spec =
