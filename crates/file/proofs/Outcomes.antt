@@ -7,11 +7,11 @@ use Prim.Native.Nat.{ℕ, _*_, _≤_}
 use native.Mathlib.Omega.{arith}
 use borrow.Author.Tests.{ne-eqb}
 use lib.ListN.{length}
+use Rattle.layout.specs.Flow.{mostTasks, WithinLimits}
 use Rattle.layout.specs.Refusal as Rules
 use Rattle.layout.specs.Refusal.{success, refusal}
 use Rattle.layout.specs.Block.{blocksFor}
 use Rattle.layout.specs.File.{tasksOf, workersOf, cellsOf, fileAnswer, flowOf, tasksIn, lentAfter}
-use Rattle.roundtrip.specs.Sound.{Sizes as WithinLimits}
 use Rattle.roundtrip.proofs.Answers.{FileKept, file-keeps, keeps-file}
 use Rattle.roundtrip.proofs.Read.{fewest, file-sizes}
 use Rattle.block.specs.declared.Sizes.{Sizes}
@@ -88,7 +88,7 @@ module _ {file : List ℕ} {met : CheckAnswer} (promised : CheckPromise file met
         subst (λ (a : CheckAnswer). WithinLimits (a .tasks) (a .workers) (a .cells)) (sym met-is) (file-sizes file (kept file accepted))
 
     -- where its rows stand
-    pub rows-fit : (length file ≡ 512 * blocksFor (met .tasks)) × (met .tasks ≤ 200)
+    pub rows-fit : (length file ≡ 512 * blocksFor (met .tasks)) × (met .tasks ≤ mostTasks)
     rows-fit = omega (arith, tasks-are, rows-stand file accepted, within)
 
     -- the flow that it is accepted as

@@ -7,7 +7,7 @@ use native.Mathlib.Omega.{arith}
 use borrow.Author.Tests.{eqb-true, leb-true, not-false}
 use lib.Dec.{eqb, leb}
 use Rattle.layout.specs.Bytes.{at, word}
-use Rattle.layout.specs.Flow.{mostTasks, mostWorkers, mostCells, inRange, upTo}
+use Rattle.layout.specs.Flow.{mostTasks, mostWorkers, mostCells, inRange, upTo, WithinLimits}
 use Rattle.layout.specs.Refusal.{firstBroken}
 use Rattle.layout.specs.Block.{blocksFor, rowsIn, checkSound, headSound, states, sizesSound, restSound, blockRefusal}
 use Rattle.layout.proofs.Lists.{and-left, and-right}
@@ -23,15 +23,7 @@ first-kept n false rest h e = absurd (omega arith)
 
 -- ---- sizes within range
 
-pub record Within (tasks workers cells : ℕ) : Type 0 where
-  pub some-task : 1 ≤ tasks
-  pub most-tasks : tasks ≤ mostTasks
-  pub some-worker : 1 ≤ workers
-  pub most-workers : workers ≤ mostWorkers
-  pub some-cell : 1 ≤ cells
-  pub most-cells : cells ≤ mostCells
-
-pub in-range : (tasks workers cells : ℕ) → inRange tasks workers cells ≡ true → Within tasks workers cells
+pub in-range : (tasks workers cells : ℕ) → inRange tasks workers cells ≡ true → WithinLimits tasks workers cells
 in-range tasks workers cells h =
     let tw = and-left (upTo mostTasks tasks && upTo mostWorkers workers) (upTo mostCells cells) h in
     let t = and-left (upTo mostTasks tasks) (upTo mostWorkers workers) tw in
@@ -39,11 +31,11 @@ in-range tasks workers cells h =
     let c = and-right (upTo mostTasks tasks && upTo mostWorkers workers) (upTo mostCells cells) h in
     record {
       some-task = leb-true 1 tasks (and-left (leb 1 tasks) (leb tasks mostTasks) t);
-      most-tasks = leb-true tasks mostTasks (and-right (leb 1 tasks) (leb tasks mostTasks) t);
+      tasks-fit = leb-true tasks mostTasks (and-right (leb 1 tasks) (leb tasks mostTasks) t);
       some-worker = leb-true 1 workers (and-left (leb 1 workers) (leb workers mostWorkers) w);
-      most-workers = leb-true workers mostWorkers (and-right (leb 1 workers) (leb workers mostWorkers) w);
+      workers-fit = leb-true workers mostWorkers (and-right (leb 1 workers) (leb workers mostWorkers) w);
       some-cell = leb-true 1 cells (and-left (leb 1 cells) (leb cells mostCells) c);
-      most-cells = leb-true cells mostCells (and-right (leb 1 cells) (leb cells mostCells) c);
+      cells-fit = leb-true cells mostCells (and-right (leb 1 cells) (leb cells mostCells) c);
     }
 
 -- ---- a block whose sizes are sound

@@ -1,7 +1,7 @@
 -- A flow as a value (01, "What is built"), on which the runs and their theorems are stated, and its limits.
 use mathlib.Core.Bool.{Bool, _&&_}
 use mathlib.Core.List.{List}
-use Prim.Native.Nat.{ℕ, _*_}
+use Prim.Native.Nat.{ℕ, _*_, _≤_}
 use lib.Dec.{leb}
 
 -- a cell that a task names, and the mode under which it does: 1 read, 2 write only, 3 read and write
@@ -69,3 +69,12 @@ upTo limit n = leb 1 n && leb n limit
 -- the sizes of a flow are within their limits
 abbrev pub inRange : ℕ → ℕ → ℕ → Bool
 inRange tasks workers cells = upTo mostTasks tasks && upTo mostWorkers workers && upTo mostCells cells
+
+-- the same, as facts
+pub record WithinLimits (tasks workers cells : ℕ) : Type 0 where
+  pub some-task : 1 ≤ tasks
+  pub tasks-fit : tasks ≤ mostTasks
+  pub some-worker : 1 ≤ workers
+  pub workers-fit : workers ≤ mostWorkers
+  pub some-cell : 1 ≤ cells
+  pub cells-fit : cells ≤ mostCells

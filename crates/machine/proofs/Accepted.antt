@@ -5,11 +5,11 @@ use mathlib.Core.List.{List}
 use Prim.Native.Nat.{ℕ, _+_, _-_, _<_, _≤_}
 use native.Mathlib.Omega.{arith}
 use lib.ListN.{length}
+use Rattle.layout.specs.Flow.{mostWorkers, mostCells, WithinLimits}
 use Rattle.layout.specs.Row.{operationsSound}
 use Rattle.layout.specs.File.{rowAt, tasksOf, workersOf, cellsOf, fileAnswer}
 use Rattle.layout.proofs.Lists.{and-both}
 use Rattle.layout.proofs.Modes.{access-cell, operation-cells}
-use Rattle.roundtrip.specs.Sound.{Sizes}
 use Rattle.roundtrip.proofs.Rows.{RowKept, row-keeps}
 use Rattle.roundtrip.proofs.Read.{file-sizes, row-sized}
 use Rattle.file.specs.declared.CheckAnswer.{CheckAnswer}
@@ -23,7 +23,7 @@ operations-kept : (workers cells : ℕ) (row : List ℕ) → RowKept workers cel
 unfolding operationsSound
 operations-kept workers cells row k = and-both _ _ (k .operations) (k .operations-rest)
 
-row-ready : (workers cells : ℕ) (row : List ℕ) → workers ≤ 8 → cells ≤ 32 → length row ≡ 48 → RowKept workers cells row → RowFits row cells
+row-ready : (workers cells : ℕ) (row : List ℕ) → workers ≤ mostWorkers → cells ≤ mostCells → length row ≡ 48 → RowKept workers cells row → RowFits row cells
 row-ready workers cells row few-workers few-cells sized k =
     record {
       size = sized;
@@ -39,7 +39,7 @@ row-ready workers cells row few-workers few-cells sized k =
 -- ---- a file that keeps them
 
 module _ (file : List ℕ) (none : fileAnswer file .number ≡ 0) where
-  sizes : Sizes (tasksOf file) (workersOf file) (cellsOf file)
+  sizes : WithinLimits (tasksOf file) (workersOf file) (cellsOf file)
   sizes = file-sizes file (kept file none)
 
   kept-row : (i : ℕ) → i < tasksOf file → RowFits (rowAt file (i + 1)) (cellsOf file)

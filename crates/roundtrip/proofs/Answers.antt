@@ -9,12 +9,11 @@ use borrow.Author.Tests.{eqb-true, eq-eqb, leb-true, le-leb}
 use lib.ListN.{length}
 use lib.Dec.{lit<}
 use Rattle.layout.specs.Refusal.{Answer, success, refusal, unless, orElse, firstAt}
-use Rattle.layout.specs.Flow.{mostBytes, mostRowBytes, inRange}
+use Rattle.layout.specs.Flow.{mostBytes, mostRowBytes, inRange, WithinLimits}
 use Rattle.layout.specs.Row.{rowRefusal}
 use Rattle.layout.specs.File.{fileAnswer, lengthSound, blocksOf, tasksOf, blockNumber, rowNumber}
 use Rattle.layout.specs.Write.{rowsAnswer, rowsSound, rowCount, rowOfTask}
 use Rattle.roundtrip.proofs.Kept.{and-iff, both-zero, second-given, rule-then, rule-passed, none-at, success-at}
-use Rattle.roundtrip.specs.Sound.{Sizes}
 
 -- ---- the file check
 
@@ -56,7 +55,7 @@ pub record RowsKept (rows : List ℕ) (workers cells : ℕ) : Type 0 where
   pub some-byte : 1 ≤ length rows
   pub bytes-fit : length rows ≤ mostRowBytes
   pub whole-rows : length rows % 48 ≡ 0
-  pub sizes : Sizes (rowCount rows) workers cells
+  pub sizes : WithinLimits (rowCount rows) workers cells
   pub each-row : (i : ℕ) → i < rowCount rows → rowRefusal workers cells (rowOfTask rows (i + 1)) ≡ 0
 
 module _ (rows : List ℕ) (workers cells : ℕ) where

@@ -7,13 +7,13 @@ use Prim.Native.Nat.{ℕ, _+_, _*_}
 use native.Mathlib.Omega.{arith}
 use borrow.Author.Tests.{eqb-true, eq-eqb, leb-true, le-leb}
 use lib.ListN.{take}
+use Rattle.layout.specs.Flow.{WithinLimits}
 use Rattle.layout.specs.Lists.{all}
 use Rattle.layout.specs.Bytes.{at, word, part, allZero}
 use Rattle.layout.specs.Refusal.{firstBroken}
 use Rattle.layout.specs.Fletcher.{fletcher}
 use Rattle.layout.specs.Block.{blockRefusal, blocksFor, rowsIn, checkSound, headSound, sizesSound}
 use Rattle.roundtrip.proofs.Kept.{rule-kept, and-iff}
-use Rattle.roundtrip.specs.Sound.{Sizes}
 
 pub record Head (blocks tasks workers cells index : ℕ) (block : List ℕ) : Type 0 where
   pub letter-s : at block 0 ≡ 83
@@ -34,7 +34,7 @@ pub record BlockKept (blocks tasks workers cells index : ℕ) (block : List ℕ)
   pub check-a : at block 510 ≡ fletcher (take 510 block) .a
   pub check-b : at block 511 ≡ fletcher (take 510 block) .b
   pub head : Head blocks tasks workers cells index block
-  pub sizes : Sizes tasks workers cells
+  pub sizes : WithinLimits tasks workers cells
   pub fewest : blocks ≡ blocksFor tasks
   pub rest : allZero (part (16 + 48 * at block 5) 510 block) ≡ true
 

@@ -7,12 +7,12 @@ use Prim.Native.Nat.{ℕ, _+_, _*_, _-_, _<_, _≤_}
 use native.Mathlib.Omega.{arith}
 use lib.ListN.{length, take, drop, replicate, length-append, length-replicate}
 use lib.Seq.{take-all, take-at, drop-at, getD-append-add}
+use Rattle.layout.specs.Flow.{WithinLimits}
 use Rattle.layout.specs.Bytes.{at, part, allZero, padded}
 use Rattle.layout.specs.Fletcher.{fletcher}
 use Rattle.layout.specs.Block.{blocksFor, rowsIn, headOf, bodyOf, sealed, blockOf}
 use Rattle.layout.proofs.Zeros.{zero-replicate}
 use Rattle.roundtrip.proofs.Parts.{part-sized, part-length, part-left, part-right, part-of-part}
-use Rattle.roundtrip.specs.Sound.{Sizes}
 use Rattle.roundtrip.proofs.BlockRules.{BlockKept}
 
 -- ---- bytes with their check after them
@@ -82,7 +82,7 @@ module _ (tasks workers cells : ℕ) (rows : List ℕ) (index : ℕ) (fits : 480
       (omega arith)
       ∙ part-of-part 48 (48 * j) (48 * rowsIn tasks index) (480 * index) rows (omega arith)
 
-  pub block-kept : Sizes tasks workers cells
+  pub block-kept : WithinLimits tasks workers cells
       → BlockKept (blocksFor tasks) tasks workers cells index (blockOf tasks workers cells rows index)
   unfolding blockOf bodyOf
   block-kept sizes =

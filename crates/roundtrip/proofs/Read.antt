@@ -6,6 +6,7 @@ use Prim.Native.Nat.{ℕ, _+_, _*_, _/_, _%_, _<_}
 use native.Mathlib.Omega.{arith}
 use lib.ListN.{length, take, drop}
 use lib.Seq.{take-all, drop-drop}
+use Rattle.layout.specs.Flow.{WithinLimits}
 use Rattle.layout.specs.Bytes.{IsBytes, padded}
 use Rattle.layout.specs.Refusal.{success}
 use Rattle.layout.specs.Block.{blocksFor, rowsIn, headOf, bodyOf, sealed, blockOf}
@@ -14,7 +15,6 @@ use Rattle.layout.specs.Write.{fileOf, rowCount, rowsAnswer}
 use Rattle.roundtrip.proofs.Parts.{part-length}
 use Rattle.roundtrip.proofs.Pieces.{joined-cut, joined-length, piece, same-pieces}
 use Rattle.roundtrip.proofs.Below.{bytes-part, bytes-joined}
-use Rattle.roundtrip.specs.Sound.{Sizes}
 use Rattle.roundtrip.proofs.BlockRules.{BlockKept, block-keeps}
 use Rattle.roundtrip.proofs.BlockRead.{block-back}
 use Rattle.roundtrip.proofs.Answers.{FileKept, keep-rows}
@@ -40,7 +40,7 @@ module _ (file : List ℕ) (k : FileKept file) where
   pub fewest : blocksOf file ≡ blocksFor (tasksOf file)
   fewest = first .fewest
 
-  pub file-sizes : Sizes (tasksOf file) (workersOf file) (cellsOf file)
+  pub file-sizes : WithinLimits (tasksOf file) (workersOf file) (cellsOf file)
   file-sizes = first .sizes
 
   -- ---- its rows

@@ -5,17 +5,8 @@ use mathlib.Core.Bool.{true}
 use Prim.Native.Nat.{ℕ, _<_, _≤_}
 use lib.ListN.{length, getD}
 use Rattle.layout.specs.Lists.{all}
-use Rattle.layout.specs.Flow.{Task, Flow, mostTasks, mostWorkers, mostCells, mostAccesses, mostOperations}
+use Rattle.layout.specs.Flow.{Task, Flow, mostAccesses, mostOperations, WithinLimits}
 use Rattle.layout.specs.Row.{accessInRange, namedOnce, operationInRange, modesSound}
-
--- "A flow has 1 to 200 tasks, 1 to 8 workers and 1 to 32 cells"
-pub record Sizes (tasks workers cells : ℕ) : Type 0 where
-  pub some-task : 1 ≤ tasks
-  pub tasks-fit : tasks ≤ mostTasks
-  pub some-worker : 1 ≤ workers
-  pub workers-fit : workers ≤ mostWorkers
-  pub some-cell : 1 ≤ cells
-  pub cells-fit : cells ≤ mostCells
 
 -- a task of a flow with so many workers and cells
 pub record TaskSound (workers cells : ℕ) (task : Task) : Type 0 where
@@ -29,7 +20,7 @@ pub record TaskSound (workers cells : ℕ) (task : Task) : Type 0 where
   pub modes-kept : modesSound task ≡ true
 
 pub record Sound (flow : Flow) : Type 0 where
-  pub sizes : Sizes (length (flow .tasks)) (flow .workers) (flow .cells)
+  pub sizes : WithinLimits (length (flow .tasks)) (flow .workers) (flow .cells)
   -- the task at each index below their number, whatever stands for a task past the end
   pub each-task : (i : ℕ) (none : Task) → i < length (flow .tasks)
       → TaskSound (flow .workers) (flow .cells) (getD (flow .tasks) i none)

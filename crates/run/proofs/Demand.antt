@@ -8,6 +8,7 @@ use native.Mathlib.Omega.{arith}
 use borrow.Author.Tests.{le-leb, leb-false}
 use lib.ListN.{length, length-append}
 use lib.Dec.{eqb}
+use Rattle.layout.specs.Flow.{mostSchedule}
 use Rattle.layout.specs.File.{flowOf}
 use Rattle.layout.proofs.Lists.{all-fails}
 use Rattle.roundtrip.proofs.Kept.{both-zero}
@@ -101,7 +102,7 @@ module _ (file cells schedule : List ℕ) (r : RunAnswer) (after : List ℕ) (pr
 -- a worker's byte more is accepted, where there is room for it
 taken-more : (file cells schedule : List ℕ) (r s : RunAnswer) (after s-after : List ℕ) (w : ℕ) → RunPromise file cells schedule r after
     → r .number ≡ 0
-    → length schedule < 65536
+    → length schedule < mostSchedule
     → w < flowOf file .workers
     → RunPromise file cells (schedule ++ w ∷ []) s s-after
     → s .number ≡ 0
@@ -110,7 +111,7 @@ taken-more file cells schedule r s after s-after w promised taken room below mor
     ap (λ (a : RunAnswer). a .number) (more .answer)
     ∙ given-accepted file cells (schedule ++ w ∷ [])
     (given-more file cells schedule w below (given file cells schedule r after promised taken))
-    (le-leb (length (schedule ++ w ∷ [])) 65536 (omega (arith, length-append schedule (w ∷ []))))
+    (le-leb (length (schedule ++ w ∷ [])) mostSchedule (omega (arith, length-append schedule (w ∷ []))))
 
 -- one step more of a worker whose step advances
 advanced-more : (file cells schedule : List ℕ) (r s : RunAnswer) (after s-after : List ℕ) (w : ℕ) → RunPromise file cells schedule r after

@@ -6,6 +6,7 @@ use mathlib.Core.Logic.{_↔_}
 use mathlib.Core.List.{List, [], _∷_, _++_}
 use Prim.Native.Nat.{ℕ, _+_, _<_, _≤_}
 use lib.ListN.{length, take}
+use Rattle.layout.specs.Flow.{mostSchedule}
 use Rattle.layout.specs.File.{flowOf}
 use Rattle.steps.specs.Step.{Setting}
 use Rattle.steps.specs.Run.{run, settingOf, total}
@@ -31,7 +32,7 @@ pub record RunDemand (file cells schedule : List ℕ) (r : RunAnswer) (after : L
   pub touched : (n : ℕ) → OnlyTouched (flowIn file) (run (flowIn file) cells (take n schedule) .machine)
   pub in-order : InOrder (flowIn file) (history (flowIn file) cells schedule)
   -- c. where it answers that it has not finished, and the schedule may be longer, there is a worker that, named next, makes the count one more
-  pub progress : r .finished ≡ 0 → length schedule < 65536
+  pub progress : r .finished ≡ 0 → length schedule < mostSchedule
       → (w : ℕ) × (w < flowOf file .workers)
       × ((s : RunAnswer) (s-after : List ℕ) → RunPromise file cells (schedule ++ w ∷ []) s s-after
       → (s .number ≡ 0) × (s .advanced ≡ r .advanced + 1))
