@@ -12,6 +12,7 @@ use Rattle.flow.specs.declared.Made.the-variants.{Within, Outside}
 abbrev madeBy : SizesAnswer → Made
 madeBy a = cond (eqb (a .number) 0) (Within record { tasks = a .tasks; workers = a .workers; cells = a .cells }) Outside
 
+-- it is the one that gave the answer
 told-back : (r : Made) → r ≡ madeBy (statedBy r)
 told-back (Within flow) = refl
 told-back Outside = refl

@@ -6,6 +6,7 @@ use Rattle.layout.specs.Flow.{inRange}
 use Rattle.flow.specs.declared.Made.{Made}
 use Rattle.flow.specs.declared.Made.the-variants.{Within, Outside}
 
+-- a number, a place and a flow's sizes
 pub record SizesAnswer : Type 0 where
   pub number : ℕ
   pub place : ℕ

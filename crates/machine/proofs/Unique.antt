@@ -25,6 +25,7 @@ ofRules pastLast = PastLast
 ofRules (writeDiffers cell) = WriteDiffers cell
 ofRules (readsDiffer cell) = ReadsDiffer cell
 
+-- it is the one that stands for that
 told-back : (r : Outcome) → r ≡ ofRules (outcomeOf r)
 told-back Advanced = refl
 told-back PastLast = refl
@@ -51,6 +52,7 @@ pub record Typed (kept : Arrays) : Type 0 where
   pub rows : length (kept .private) ≡ mostWorkers
   pub private-typed : (w : ℕ) → w < mostWorkers → RowTyped (getD (kept .private) w [])
 
+-- such arrays are the same where the machine that they stand for is: a counter, a row of them, and all
 same-pair : (x y : List ℕ) → length x ≡ 2 → length y ≡ 2 → counterOf x ≡ counterOf y → x ≡ y
 same-pair x y two two′ same = ext-getD 0 x y (two ∙ sym two′) go
   where
