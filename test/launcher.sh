@@ -88,7 +88,7 @@ case $word in
 refuse) echo "refused 4 place 0" ;;
 bytes) printf 'ref\0used \377\1\n\n' ;;
 late) echo "not refused 4" ;;
-crash) kill -SEGV $$ ;;
+crash) kill -KILL $$ ;;
 *) echo "ran $word" ;;
 esac
 TEXT
@@ -131,7 +131,7 @@ statuses() {
     try 1 go refuse && wrote 'refused 4 place 0\n' && said 0
     try 0 go bytes && wrote 'ref\0used \0377\01\n\n' && said 0
     try 0 go late && wrote 'not refused 4\n'
-    try 139 go crash && wrote
+    try 137 go crash && wrote
     try 0 "$tree/sflw" && said 0
     try 2 "$tree/sflw" walk && wrote
     try 2 "$tree/sflw" run fast && wrote && said 1 "standard input"
