@@ -18,11 +18,11 @@ fn is_row_of(found: Found, row: &[u8], task: u32) -> bool {
 
 // What a call answers, after so many others. As long as each gives the next row of the largest flow, the first `silent` calls are
 // counted; every other answer is written.
-fn heard(in_order: u32, call: u32, silent: u32, fetched: Fetched) -> u32 {
+fn tell(in_order: u32, call: u32, silent: u32, fetched: Fetched) -> u32 {
     let found = fetched.found;
     let row = fetched.row;
-    if (in_order == call) & (call < silent) {
-        if is_row_of(found, &row, call + 1) {
+    if call < silent {
+        if (in_order == call) & is_row_of(found, &row, call + 1) {
             return call + 1;
         }
     }
@@ -38,7 +38,7 @@ fn read_through(file: &[u8], calls: u32, silent: u32) -> u32 {
     let mut call: u32 = 0;
     while call < calls {
         let fetched = row_reader::next(&mut rows);
-        in_order = heard(in_order, call, silent, fetched);
+        in_order = tell(in_order, call, silent, fetched);
         call = call + 1;
     }
     in_order
@@ -89,7 +89,7 @@ fn block_7_changed() {
     let mut file = flows::largest_file();
     file[512 * 7 + 495] = 1;
     say::text(b"largest flow with block 7 changed\n");
-    read_through(&file, 3, Flow::MAX_TASKS);
+    read_through(&file, 3, 0);
 }
 
 fn main() {
