@@ -28,6 +28,7 @@ caseAnswer Row row = record { number = 0; place = 0; bytes = 48; ended = false; 
 caseAnswer End row = record { number = 0; place = 0; bytes = 0; ended = true; row = row }
 caseAnswer (Refused met) row = record { number = met .number; place = met .place; bytes = 0; ended = false; row = row }
 
+-- the same of what a function returns
 abbrev pub answerBy : Fetched → RowAnswer
 answerBy fetched = caseAnswer (fetched .found) (fetched .row)
 
@@ -50,8 +51,10 @@ given file task =
 abbrev pub refusedBy : Rules.Answer → RowAnswer
 refusedBy met = caseAnswer (Refused (answerOf met)) noRow
 
+-- the refusal where the check met one, whatever the place
 abbrev pub answerWith : Rules.Answer → List ℕ → ℕ → RowAnswer
 answerWith met file task = cond (eqb (met .number) 0) (given file task) (refusedBy met)
 
+-- the answer at a place of a file
 unfoldable pub answerAt : List ℕ → ℕ → RowAnswer
 answerAt file task = answerWith (fileAnswer file) file task

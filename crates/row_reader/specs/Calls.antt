@@ -26,10 +26,11 @@ pub data Called : Rows → List Fetched → Rows → Type 0 where
 
 -- ---- of an accepted file
 
--- answer i, the first is answer 0: the row of task i + 1, and the end after the last task
+-- answer i, counted from 0: the row of task i + 1, and the end after the last task
 abbrev pub answerOfCall : List ℕ → ℕ → RowAnswer
 answerOfCall file i = cond (ltb i (tasksOf file)) (caseAnswer Row (rowAt file (i + 1))) (caseAnswer End noRow)
 
+-- what calls on a new reader of it answer and leave
 pub record GivesRows (file : RefT (List ℕ)) (all : List Fetched) (after : Rows) : Type 0 where
   pub answers : map answerBy all ≡ each (length all) (answerOfCall (now file))
   -- once as many calls are made as there are tasks, the bytes given are the rows of `reader::read`
@@ -37,7 +38,7 @@ pub record GivesRows (file : RefT (List ℕ)) (all : List Fetched) (after : Rows
   -- the very file that was lent is kept
   pub stands : StandsAt file (min (length all + 1) (mostTasks + 1)) after
 
--- ---- of a refused file
+-- ---- of a refused file: the check's own number and place at every call, and no row
 
 pub record GivesRefusal (file : RefT (List ℕ)) (all : List Fetched) (after : Rows) : Type 0 where
   pub answers : map answerBy all ≡ each (length all) (λ _. refusedBy (fileAnswer (now file)))

@@ -1,5 +1,4 @@
--- What the row reader's functions promise: an answer is the one at a place of a file, a reader stands at a place of a file, and a
--- call of `next` answers at the reader's place and moves it on.
+-- What the row reader's functions promise of an answer, of a new reader, and of a reader that a call has moved on.
 use mathlib.Core.Path.{_≡_}
 use mathlib.Core.Bool.{cond}
 use mathlib.Core.List.{List}
@@ -10,10 +9,11 @@ use Rattle.row_reader.specs.declared.Fetched.{Fetched}
 use Rattle.row_reader.specs.declared.Rows.{Rows}
 use Rattle.row_reader.specs.Answers.{answerBy, answerAt}
 
+-- the answer is the one at a place of a file
 abbrev pub Answered : List ℕ → ℕ → Fetched → Type 0
 Answered file task r = answerBy r ≡ answerAt file task
 
--- the reader keeps the very file that is lent
+-- the reader keeps the very file that is lent, and has this place in it
 abbrev pub StandsAt : RefT (List ℕ) → ℕ → Rows → Type 0
 StandsAt file task r = (r .file ≡ file) × (r .task ≡ task)
 
@@ -21,7 +21,8 @@ StandsAt file task r = (r .file ≡ file) × (r .task ≡ task)
 abbrev pub following : ℕ → ℕ
 following task = cond (upTo mostTasks task) (task + 1) task
 
--- the reader before a call, what is answered, and the reader after it
+-- of the reader before a call, what is answered, and the reader after it: the answer is the one at the reader's place, and the
+-- reader is moved on
 abbrev pub NextPromise : Rows → Fetched → Rows → Type 0
 NextPromise before r after =
     Answered (now (before .file)) (before .task) r × StandsAt (before .file) (following (before .task)) after
