@@ -21,7 +21,7 @@ use Rattle.roundtrip.proofs.Kept.{rule-kept, and-iff}
 
 -- ---- what the rules say of a row
 
-pub record Counts (workers : ℕ) (row : List ℕ) : Type 0 where
+pub record RowCounts (workers : ℕ) (row : List ℕ) : Type 0 where
   pub owner : at row 0 < workers
   pub some-access : 1 ≤ at row 1
   pub accesses-fit : at row 1 ≤ mostAccesses
@@ -29,7 +29,7 @@ pub record Counts (workers : ℕ) (row : List ℕ) : Type 0 where
   pub spare : at row 3 ≡ 0
 
 pub record RowKept (workers cells : ℕ) (row : List ℕ) : Type 0 where
-  pub counts : Counts workers row
+  pub counts : RowCounts workers row
   pub accesses : all (accessInRange cells) (taskOf row .accesses) ≡ true
   pub accesses-rest : allZero (part (4 + 2 * at row 1) 12 row) ≡ true
   pub once : namedOnce (taskOf row .accesses) ≡ true

@@ -13,7 +13,7 @@ use Rattle.steps.specs.Step.{Setting, Try, waitWrite, waitReads, operate
 use Rattle.steps.specs.Conflict.{taskAt, AllKeep, TellsApart}
 use Rattle.steps.proofs.OnCell.{on, stage, stage-start}
 use Rattle.steps.proofs.OwnMade.{made-none, own-made-past}
-use Rattle.steps.proofs.Places.{Standing, standing-fresh, standing-kept, facing, afterOwn, StepView, past, other, held, view, change-places}
+use Rattle.steps.proofs.Places.{PlacesFit, standing-fresh, standing-kept, facing, afterOwn, StepView, past, other, held, view, change-places}
 use Rattle.steps.proofs.Protocol.{inv-start, inv-step}
 use Rattle.steps.proofs.Protocol.Words.{lastBefore, sumBefore}
 use Rattle.steps.proofs.Protocol.Invariant.{Inv}
@@ -21,7 +21,7 @@ use Rattle.steps.proofs.Rows.{kinds, RowIs, row-arrives, row-registers,
 use Rattle.steps.proofs.Seen.{seen, seen-off, seen-on, below-there, allowed-there}
 
 pub record Kept (s : Setting) (m : Machine) : Type 0 where
-  pub standing : Standing (s .tasks) (m .places)
+  pub standing : PlacesFit (s .tasks) (m .places)
   pub cells : (c : ℕ) → Inv (kinds s c) (s .number) (length (s .tasks)) (seen s m c)
   pub rows : (w : ℕ) → RowIs s w (m .places w) (m .private w)
 

@@ -8,7 +8,7 @@ use Rattle.steps.specs.Operations.{operated}
 use Rattle.steps.specs.Machine.{Machine}
 use Rattle.steps.specs.Step.{Setting, Try, waitWrite, waitReads, operate, endRead, zeroReads, postWrite, change, Stepped, step}
 use Rattle.steps.specs.History.{Entry, made, nextOperation, madeBy, afterHistory}
-use Rattle.steps.proofs.Places.{facing, Stands, Trying, afterOwn, StepView, past, other, held, view, on-write, on-reads}
+use Rattle.steps.proofs.Places.{facing, PlaceFits, Trying, afterOwn, StepView, past, other, held, view, on-write, on-reads}
 use Rattle.steps.proofs.Sides.{operation-place}
 use Rattle.steps.proofs.History.{adds-own, adds-none-past, adds-none-other}
 
@@ -36,7 +36,7 @@ module _ (s : Setting) (m : Machine) (w : ℕ) where
   own-leaves (zeroReads c) trying = quiet (adds-own s m w trying)
   own-leaves (postWrite c) trying = quiet (adds-own s m w trying)
 
-  pub leaves : Stands (s .tasks) w (m .places w) → step s m w .machine .cells ≡ afterHistory s (madeBy s m w) (m .cells)
+  pub leaves : PlaceFits (s .tasks) w (m .places w) → step s m w .machine .cells ≡ afterHistory s (madeBy s m w) (m .cells)
   unfolding nextOperation
   leaves stands = go (view s m w stands)
     where

@@ -26,15 +26,15 @@ abbrev pub stepsOf : ℕ → Task → ℕ
 stepsOf w task = cond (eqb (task .owner) w) (length (ownSteps task)) 1
 
 -- a worker is at a task with some of its steps there still to make, or past the last task
-pub record Stands (tasks : List Task) (w : ℕ) (at : Place) : Type 0 where
+pub record PlaceFits (tasks : List Task) (w : ℕ) (at : Place) : Type 0 where
   pub in-list : at .passed ≤ length tasks
   pub unmade : at .passed < length tasks → at .made < stepsOf w (taskAt tasks (at .passed))
   pub at-end : at .passed ≡ length tasks → at .made ≡ 0
 
-pub record Standing (tasks : List Task) (places : ℕ → Place) : Type 0 where
-  pub each-worker : (w : ℕ) → Stands tasks w (places w)
+pub record PlacesFit (tasks : List Task) (places : ℕ → Place) : Type 0 where
+  pub each-worker : (w : ℕ) → PlaceFits tasks w (places w)
 
-module _ {tasks : List Task} {w : ℕ} {at : Place} (stands : Stands tasks w at) (h : at .passed < length tasks) where
+module _ {tasks : List Task} {w : ℕ} {at : Place} (stands : PlaceFits tasks w at) (h : at .passed < length tasks) where
   pub own-unmade : taskAt tasks (at .passed) .owner ≡ w → at .made < length (ownSteps (taskAt tasks (at .passed)))
   own-unmade owns = rw (eq-eqb _ _ owns) at (stands .unmade h)
 
@@ -114,7 +114,7 @@ own s m w (passes p) trying e = made trying e p
 own s m w (waits (on-write p)) trying e = held trying e (on-write p)
 own s m w (waits (on-reads p)) trying e = held trying e (on-reads p)
 
-pub view : (s : Setting) (m : Machine) (w : ℕ) → Stands (s .tasks) w (m .places w) → StepView s m w (step s m w)
+pub view : (s : Setting) (m : Machine) (w : ℕ) → PlaceFits (s .tasks) w (m .places w) → StepView s m w (step s m w)
 unfolding step stepFrom ownStep
 view s m w stands = go (ltb (m .places w .passed) (length (s .tasks))) refl
   where
@@ -151,15 +151,15 @@ Held (writeDiffers c) = Unit {0}
 Held (readsDiffer c) = Unit {0}
 
 -- where an advancing step takes a worker: it has made one more of its steps at the task, or the last of them
-pub data Next (tasks : List Task) (w : ℕ) (at : Place) : Place → Type 0 where
+pub data NextPlace (tasks : List Task) (w : ℕ) (at : Place) : Place → Type 0 where
   within : at .passed < length tasks → at .made + 1 < stepsOf w (taskAt tasks (at .passed))
-      → Next tasks w at (place (at .passed) (at .made + 1))
-  beyond : at .passed < length tasks → at .made + 1 ≡ stepsOf w (taskAt tasks (at .passed)) → Next tasks w at (place (at .passed + 1) 0)
+      → NextPlace tasks w at (place (at .passed) (at .made + 1))
+  beyond : at .passed < length tasks → at .made + 1 ≡ stepsOf w (taskAt tasks (at .passed)) → NextPlace tasks w at (place (at .passed + 1) 0)
 
 -- nobody moves where the step is held, and its worker alone where it advances
 pub data Moves (s : Setting) (m : Machine) (w : ℕ) : Outcome → (ℕ → Place) → Type 0 where
   stays : {why : Outcome} → Held why → Moves s m w why (m .places)
-  goes : {next : Place} → Next (s .tasks) w (m .places w) next → Moves s m w advanced (put (m .places) w next)
+  goes : {next : Place} → NextPlace (s .tasks) w (m .places w) next → Moves s m w advanced (put (m .places) w next)
 
 module _ (s : Setting) (m : Machine) (w : ℕ) where
   -- what an own step changes but for the place leaves the places
@@ -172,16 +172,16 @@ module _ (s : Setting) (m : Machine) (w : ℕ) where
   change-places number (zeroReads c) = refl
   change-places number (postWrite c) = refl
 
-  pub next-own : {try : Try} → Trying s m w try → Next (s .tasks) w (m .places w) (moved (facing s m w) (m .places w))
+  pub next-own : {try : Try} → Trying s m w try → NextPlace (s .tasks) w (m .places w) (moved (facing s m w) (m .places w))
   next-own trying = go (ltb (m .places w .made + 1) (length (ownSteps (facing s m w)))) refl
     where
       go : (t : Bool) → ltb (m .places w .made + 1) (length (ownSteps (facing s m w))) ≡ t
-          → Next (s .tasks) w (m .places w)
+          → NextPlace (s .tasks) w (m .places w)
           (cond t (place (m .places w .passed) (m .places w .made + 1)) (place (m .places w .passed + 1) 0))
       go true e = within (trying .at-task) (rw (eq-eqb _ _ (trying .owns)) (ltb-true _ _ e))
       go false e = beyond (trying .at-task) (rw (eq-eqb _ _ (trying .owns)) (omega (arith, trying .unmade, ltb-false)))
 
-  pub moves : Stands (s .tasks) w (m .places w) → Moves s m w (step s m w .outcome) (step s m w .machine .places)
+  pub moves : PlaceFits (s .tasks) w (m .places w) → Moves s m w (step s m w .outcome) (step s m w .machine .places)
   moves stands = go (view s m w stands)
     where
       go : {r : Stepped} → StepView s m w r → Moves s m w (r .outcome) (r .machine .places)
@@ -195,24 +195,24 @@ module _ (s : Setting) (m : Machine) (w : ℕ) where
 
 module _ (s : Setting) (some-access : (i : ℕ) → i < length (s .tasks) → 1 ≤ length (taskAt (s .tasks) i .accesses)) where
   -- a worker has a step at least to make at each task, so where it comes to a task, it stands at its first step
-  pub arrives : (w passed : ℕ) → passed ≤ length (s .tasks) → Stands (s .tasks) w (place passed 0)
+  pub arrives : (w passed : ℕ) → passed ≤ length (s .tasks) → PlaceFits (s .tasks) w (place passed 0)
   arrives w passed h = record { in-list = h; unmade = go (eqb (taskAt (s .tasks) passed .owner) w); at-end = λ e. refl }
     where
       go : (t : Bool) → passed < length (s .tasks) → 0 < cond t (length (ownSteps (taskAt (s .tasks) passed))) 1
       go true l = some-own-step (taskAt (s .tasks) passed) (some-access passed l)
       go false l = omega arith
 
-  pub next-stands : {w : ℕ} {at next : Place} → Next (s .tasks) w at next → Stands (s .tasks) w next
+  pub next-stands : {w : ℕ} {at next : Place} → NextPlace (s .tasks) w at next → PlaceFits (s .tasks) w next
   next-stands (within h more) = record { in-list = omega arith; unmade = λ l. more; at-end = λ e. omega arith }
   next-stands {w} {at} (beyond h last) = arrives w (at .passed + 1) (omega arith)
 
-  pub standing-fresh : (cells : List ℕ) → Standing (s .tasks) (fresh (s .number 0) cells .places)
+  pub standing-fresh : (cells : List ℕ) → PlacesFit (s .tasks) (fresh (s .number 0) cells .places)
   standing-fresh cells = record { each-worker = λ w. arrives w 0 (omega arith) }
 
-  pub standing-kept : (m : Machine) (w : ℕ) → Standing (s .tasks) (m .places) → Standing (s .tasks) (step s m w .machine .places)
+  pub standing-kept : (m : Machine) (w : ℕ) → PlacesFit (s .tasks) (m .places) → PlacesFit (s .tasks) (step s m w .machine .places)
   standing-kept m w standing = go (moves s m w (standing .each-worker w))
     where
-      go : {why : Outcome} {places : ℕ → Place} → Moves s m w why places → Standing (s .tasks) places
+      go : {why : Outcome} {places : ℕ → Place} → Moves s m w why places → PlacesFit (s .tasks) places
       go (stays still) = standing
       go (goes {next} on) =
-          record { each-worker = put-each (m .places) w next (Stands (s .tasks)) (next-stands on) (standing .each-worker) }
+          record { each-worker = put-each (m .places) w next (PlaceFits (s .tasks)) (next-stands on) (standing .each-worker) }

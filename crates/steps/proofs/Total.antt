@@ -20,7 +20,7 @@ use Rattle.steps.specs.Run.{Run, counted, runFrom, run, Names, finished,
 use Rattle.steps.specs.Conflict.{taskAt}
 use Rattle.steps.proofs.Along.{freshRun, afterStep, counted-machine, along}
 use Rattle.steps.proofs.OwnSteps.{own-steps}
-use Rattle.steps.proofs.Places.{stepsOf, Stands, Standing, Held, Next, within, beyond, Moves, stays, goes, moves}
+use Rattle.steps.proofs.Places.{stepsOf, PlaceFits, PlacesFit, Held, NextPlace, within, beyond, Moves, stays, goes, moves}
 use Rattle.steps.proofs.Places.{standing-fresh, standing-kept}
 use Rattle.steps.proofs.Put.{put-here, put-other}
 use Rattle.steps.proofs.Sums.{sum, sum-more, sum-plus, sum-const, sum-longer, sum-over, sum-above, sum-same, sum-but-one}
@@ -39,25 +39,25 @@ abbrev pub wholeWalk : List Task → ℕ → ℕ
 wholeWalk tasks w = walk tasks w (length tasks)
 
 -- a worker that stands at a task has not walked to the end, and one past the last task has
-pub under-way : (tasks : List Task) (w : ℕ) (at : Place) → Stands tasks w at → at .passed < length tasks
+pub under-way : (tasks : List Task) (w : ℕ) (at : Place) → PlaceFits tasks w at → at .passed < length tasks
     → walked tasks w at < wholeWalk tasks w
 under-way tasks w at stands h =
     let f : ℕ → ℕ = λ i. stepsOf w (taskAt tasks i) in
     omega (arith, stands .unmade h, sum-more (at .passed) f, sum-longer (at .passed + 1) (length tasks) f (omega arith))
 
-pub walked-out : (tasks : List Task) (w : ℕ) (at : Place) → Stands tasks w at → length tasks ≤ at .passed
+pub walked-out : (tasks : List Task) (w : ℕ) (at : Place) → PlaceFits tasks w at → length tasks ≤ at .passed
     → walked tasks w at ≡ wholeWalk tasks w
 walked-out tasks w at stands h =
     let e : at .passed ≡ length tasks = omega arith in
     omega (arith, stands .at-end e, ap (walk tasks w) e)
 
-pub no-further : (tasks : List Task) (w : ℕ) (at : Place) → Stands tasks w at → walked tasks w at ≤ wholeWalk tasks w
+pub no-further : (tasks : List Task) (w : ℕ) (at : Place) → PlaceFits tasks w at → walked tasks w at ≤ wholeWalk tasks w
 no-further tasks w at stands =
     ⊎-elim (λ e. omega (arith, walked-out tasks w at stands (omega arith))) (λ l. omega (arith, under-way tasks w at stands l))
     (eq-or-lt-of-le (stands .in-list))
 
 -- an advancing step takes it one step on
-pub next-walked : (tasks : List Task) (w : ℕ) {at next : Place} → Next tasks w at next → walked tasks w next ≡ walked tasks w at + 1
+pub next-walked : (tasks : List Task) (w : ℕ) {at next : Place} → NextPlace tasks w at next → walked tasks w next ≡ walked tasks w at + 1
 next-walked tasks w (within h more) = omega arith
 next-walked tasks w {at} (beyond h last) = omega (arith, sum-more (at .passed) (λ i. stepsOf w (taskAt tasks i)))
 
@@ -78,7 +78,7 @@ moved-on workers tasks places w next h e =
 
 -- of every run: where workers stand, and how many steps have advanced
 pub record Counts (s : Setting) (workers : ℕ) (r : Run) : Type 0 where
-  pub standing : Standing (s .tasks) (r .machine .places)
+  pub standing : PlacesFit (s .tasks) (r .machine .places)
   pub counts : r .advanced ≡ allWalked workers (s .tasks) (r .machine .places)
 
 module _ (s : Setting) (workers : ℕ) (some-access : (i : ℕ) → i < length (s .tasks) → 1 ≤ length (taskAt (s .tasks) i .accesses)) where
@@ -159,7 +159,7 @@ whole-total workers (task ∷ tasks) owned =
 
 module _ (s : Setting) (workers : ℕ) (owned : (i : ℕ) → i < length (s .tasks) → taskAt (s .tasks) i .owner < workers)
     (r : Run) (so-far : Counts s workers r) where
-  stands : (w : ℕ) → Stands (s .tasks) w (r .machine .places w)
+  stands : (w : ℕ) → PlaceFits (s .tasks) w (r .machine .places w)
   stands = so-far .standing .each-worker
 
   abbrev steps : ℕ → ℕ

@@ -16,7 +16,7 @@ use Rattle.steps.specs.Demand.{numbered, Declared, Touches}
 use Rattle.steps.proofs.Leaves.{leaves}
 use Rattle.steps.proofs.Modes.{keeps-writes, keeps-reads-a, keeps-reads-b}
 use Rattle.steps.proofs.OwnMade.{order}
-use Rattle.steps.proofs.Places.{Stands}
+use Rattle.steps.proofs.Places.{PlaceFits}
 use Rattle.steps.proofs.Plain.{value-same}
 
 -- what two contents of a cell that is set to one value give
@@ -36,7 +36,7 @@ set-alike one other cell v v′ as-long same =
 
 -- ---- the step
 
-module _ (s : Setting) (m : Machine) (w : ℕ) (stands : Stands (s .tasks) w (m .places w)) where
+module _ (s : Setting) (m : Machine) (w : ℕ) (stands : PlaceFits (s .tasks) w (m .places w)) where
   -- which operation a step makes does not depend on what the cells hold
   made-alike : (cells : List ℕ) (tasks : List Task) → madeFrom (withCells m cells) w tasks ≡ madeFrom m w tasks
   unfolding madeFrom
