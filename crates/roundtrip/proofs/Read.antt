@@ -50,14 +50,14 @@ module _ (file : List ℕ) (k : FileKept file) where
       let block : i / 10 < blocksOf file = rw fewest (omega arith) in
       rw row-at (part-length (16 + 48 * (i % 10)) 48 (blockAt file (i / 10)) (rw (block-sized (i / 10) block) (omega arith)))
 
-  rows-length : length (rowsOf file) ≡ 48 * tasksOf file
+  pub rows-length : length (rowsOf file) ≡ 48 * tasksOf file
   unfolding rowsOf
   rows-length = joined-length 48 (tasksOf file) (rowAt file) (λ i. i + 1) row-sized
 
   pub count-back : rowCount (rowsOf file) ≡ tasksOf file
   count-back = omega (arith, rows-length)
 
-  row-there : (i : ℕ) → i < tasksOf file → take 48 (drop (48 * i) (rowsOf file)) ≡ rowAt file (i + 1)
+  pub row-there : (i : ℕ) → i < tasksOf file → take 48 (drop (48 * i) (rowsOf file)) ≡ rowAt file (i + 1)
   unfolding rowsOf
   row-there i l = piece 48 (tasksOf file) (rowAt file) (λ j. j + 1) row-sized i l
 

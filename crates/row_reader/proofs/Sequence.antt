@@ -17,8 +17,8 @@ use Rattle.layout.specs.Refusal.{success, refusal}
 use Rattle.layout.specs.File.{rowAt, tasksOf, fileAnswer, rowsOf}
 use Rattle.layout.proofs.Lists.{each-same}
 use Rattle.roundtrip.proofs.Answers.{FileKept, file-keeps, keeps-file}
-use Rattle.roundtrip.proofs.Pieces.{joined-cut, joined-length, piece}
-use Rattle.roundtrip.proofs.Read.{file-sizes, row-sized}
+use Rattle.roundtrip.proofs.Pieces.{joined-cut}
+use Rattle.roundtrip.proofs.Read.{file-sizes, row-sized, rows-length, row-there}
 use Rattle.row_reader.specs.declared.Found.the-variants.{Row, End}
 use Rattle.row_reader.specs.declared.Fetched.{Fetched}
 use Rattle.row_reader.specs.declared.Rows.{Rows}
@@ -82,24 +82,19 @@ module _ (file : List ℕ) (none : fileAnswer file .number ≡ 0) where
       ap (given file) on ∙ has-row file (i + 1) (is-up-to (tasksOf file) (i + 1) (omega arith) (omega arith)))
       (λ l. has-none file (placeAfter i 1) (is-past (tasksOf file) (placeAfter i 1) (omega (arith, place i, file-sizes file kept))))
 
-  rows-length : length (rowsOf file) ≡ 48 * tasksOf file
-  unfolding rowsOf
-  rows-length = joined-length 48 (tasksOf file) (rowAt file) (λ i. i + 1) (row-sized file kept)
-
   -- each answer gives its piece of the rows, and past them nothing
   gives-piece : (i : ℕ) → bytesGiven (answerOfCall file i) ≡ take 48 (drop (48 * i) (rowsOf file))
-  unfolding rowsOf
   gives-piece i =
       by-call file i (λ a. bytesGiven a ≡ take 48 (drop (48 * i) (rowsOf file)))
       (λ l.
       take-all 48 (rowAt file (i + 1)) (omega (arith, row-sized file kept i l))
-      ∙ sym (piece 48 (tasksOf file) (rowAt file) (λ j. j + 1) (row-sized file kept) i l))
-      (λ l. sym (ap (take 48) (drop-of-length-le (rowsOf file) {i = 48 * i} (omega (arith, rows-length)))))
+      ∙ sym (row-there file kept i l))
+      (λ l. sym (ap (take 48) (drop-of-length-le (rowsOf file) {i = 48 * i} (omega (arith, rows-length file kept)))))
 
   all-given : (calls : ℕ) → tasksOf file ≤ calls → joined bytesGiven (each calls (answerOfCall file)) ≡ rowsOf file
   all-given calls enough =
       joined-cut 48 calls (rowsOf file) bytesGiven (answerOfCall file) (λ i l. gives-piece i)
-      ∙ take-all (48 * calls) (rowsOf file) (omega (arith, rows-length))
+      ∙ take-all (48 * calls) (rowsOf file) (omega (arith, rows-length file kept))
 
 -- ---- calls of a reader that `new` makes
 

@@ -10,7 +10,7 @@ use Rattle.layout.specs.Block.{blocksFor}
 use Rattle.layout.specs.File.{fileAnswer, readAnswer, rowsOf, tasksOf, workersOf, cellsOf}
 use Rattle.layout.specs.Write.{fileOf, rowCount, rowsAnswer, writeAnswer}
 use Rattle.roundtrip.proofs.Answers.{file-keeps, rows-keep, keep-rows}
-use Rattle.roundtrip.proofs.Read.{count-back, rows-accepted}
+use Rattle.roundtrip.proofs.Read.{rows-length}
 use Rattle.roundtrip.proofs.Theorems.{ReadBack, reader-after-writer}
 use Rattle.file.proofs.Outcomes.{rows-stand}
 use Rattle.reader.specs.declared.ReadAnswer.{ReadAnswer}
@@ -35,10 +35,7 @@ read-fills promised = record { answer = promised .answer; numbered = λ a. refl;
 
 -- the rows of an accepted file are as long as its tasks say
 pub rows-long : (file : List ℕ) → fileAnswer file .number ≡ 0 → length (rowsOf file) ≡ 48 * tasksOf file
-rows-long file accepted =
-    let k = file-keeps file accepted in
-    let rows = rows-keep _ _ _ (ap (λ (a : Answer). a .number) (rows-accepted file k)) in
-    omega (arith, rows, count-back file k)
+rows-long file accepted = rows-length file (file-keeps file accepted)
 
 -- a read that answers 0 gives the rows, the workers and the cells of the file
 pub gives-rows : {file lent : List ℕ} {r : ReadAnswer} {after : List ℕ} → ReadPromise file lent r after → r .number ≡ 0
