@@ -23,12 +23,19 @@ loop-holds c =
       kept-none (start .args .row .now) (start .args .modes .now) (start .pre .1 .1 .1),
     )
 
+-- where the function starts, as seen from the head of the loop; and that head, once both cells of an operation are read
+abbrev from-loop : tie.At-loop Inv-loop μ-loop → tie.Start Inv-loop μ-loop
+from-loop c = c .before .before .before .before
+
+abbrev head-of : tie.After-index3 Inv-loop μ-loop → tie.At-loop Inv-loop μ-loop
+head-of c = c .before .before .before .before .before
+
 step : (c : tie.After-index3 Inv-loop μ-loop)
-    → Step (c .before .before .before .before .before .before .before .before .before .args .row .now) (c .before .before .before .before .before .loop .i) (c .before .before .index2 .result) (c .index3 .result) (c .before .before .before .before .before .loop .modes)
+    → Step (from-loop (head-of c) .args .row .now) (head-of c .loop .i) (c .before .before .index2 .result) (c .index3 .result) (head-of c .loop .modes)
 step c =
-    let head = c .before .before .before .before .before in
+    let head = head-of c in
     record {
-      sound = head .before .before .before .before .pre .1 .1 .0;
+      sound = from-loop head .pre .1 .1 .0;
       more = rw (head .before .index .ensures .0) at (c .before .before .before .before .loop-test .taken);
       read = record { of-a = c .before .before .index2 .ensures .0; of-b = c .index3 .ensures .0 };
       kept = head .loop .inv .2;

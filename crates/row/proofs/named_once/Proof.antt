@@ -22,14 +22,22 @@ loop-holds c =
       rw (c .index .ensures .0, start .pre .1 .1 .1) (passed-none (start .args .row .now)),
     )
 
+-- where the function starts, as seen from the head of the loop; and that head, once a cell is read
+abbrev from-loop : tie.At-loop Inv-loop μ-loop → tie.Start Inv-loop μ-loop
+from-loop c = c .before .before .before .before
+
+abbrev head-of : tie.After-index2 Inv-loop μ-loop → tie.At-loop Inv-loop μ-loop
+head-of c = c .before .before .before
+
 turn : (c : tie.After-index2 Inv-loop μ-loop)
-    → Turn (c .before .before .before .before .before .before .before .args .row .now) (c .before .before .before .loop .j) (c .index2 .result) (c .before .before .before .loop .modes)
+    → Turn (from-loop (head-of c) .args .row .now) (head-of c .loop .j) (c .index2 .result) (head-of c .loop .modes)
 turn c =
+    let head = head-of c in
     record {
-      sound = c .before .before .before .before .before .before .before .pre .1 .1 .0;
+      sound = from-loop head .pre .1 .1 .0;
       more = c .before .before .loop-test .taken;
       read = c .index2 .ensures .0;
-      passed = c .before .before .before .loop .inv .1;
+      passed = head .loop .inv .1;
     }
 
 element-copy-out-if1 : tie.Need-element-copy-out-if1 Inv-loop μ-loop

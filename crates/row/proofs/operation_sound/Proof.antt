@@ -4,9 +4,20 @@ use Rattle.row.proofs.Operation.{Read, sound-first, sound-other}
 use Rattle.row.proofs.operation_sound.Statement.{statement}
 use Rattle.row.proofs.operation_sound.Tie as tie
 
+-- where the function starts, as seen once a is read
+abbrev from-a : tie.After-wide → tie.Start
+from-a c = c .before .before .before .before
+
+-- where a is read, as seen once b is; and where b is, once k is
+abbrev a-read : tie.After-wide2 → tie.After-wide
+a-read c = c .before .before
+
+abbrev b-read : tie.After-word → tie.After-wide2
+b-read c = c .before .before .before .before
+
 read : (c : tie.After-word)
-    → Read (c .before .before .before .before .before .before .before .before .before .before .args .row .now) (c .before .before .before .before .before .before .before .before .before .before .args .i) (c .before .before .before .before .before .before .wide .result) (c .before .before .before .before .wide2 .result)
-read c = record { of-a = c .before .before .before .before .before .before .wide .ensures .0; of-b = c .before .before .before .before .wide2 .ensures .0 }
+    → Read (from-a (a-read (b-read c)) .args .row .now) (from-a (a-read (b-read c)) .args .i) (a-read (b-read c) .wide .result) (b-read c .wide2 .result)
+read c = record { of-a = a-read (b-read c) .wide .ensures .0; of-b = b-read c .wide2 .ensures .0 }
 
 returns : tie.Need-returns
 returns c = sound-first _ (read (c .before)) (c .if1 .taken)
