@@ -6,12 +6,18 @@ use Rattle.filler.proofs.Parts.{filled}
 use Rattle.filler.proofs.fill.Statement.{statement}
 use Rattle.filler.proofs.fill.Tie as tie
 
+-- from the end back: the check is stored, the rows are laid, their end and their place worked out, the head laid and made
 returns : tie.Need-returns
 returns c =
-    let a = c .before .before .before .before .before .before .before .before .before .before .before .before .before .before .before .before .before .before .before .before .args in
-    let from = c .before .before .before .before .before .before .before .before .before .before .before .offset in
-    let more = c .before .before .before .before .before .before .before .before .before .offset2 in
-    let rows = c .before .before .before .before .before .before .before .before .before .before .rows-in in
+    let stored = c .before .before in
+    let laid = stored .before .before .before .before in
+    let ended = laid .before .before .before in
+    let placed = ended .before .before in
+    let headed = placed .before .before .before in
+    let made = headed .before .before .before in
+    let a = made .before .before .before .args in
+    let from = placed .offset in
+    let more = ended .offset2 in
     filled
     (a .flow .tasks)
     (a .flow .workers)
@@ -21,17 +27,17 @@ returns c =
     (from .result + more .result)
     (a .all .now)
     (a .part .now)
-    (c .before .before .before .before .before .before .before .before .before .before .before .before .before .before .before .before .before .head .result)
-    (c .before .before .before .before .before .before .before .before .before .before .before .before .before .before .copy .last .1 .0)
-    (c .before .before .before .before .before .before .rows .last .0)
-    (c .before .before .seal .last .0)
+    (made .head .result)
+    (headed .copy .last .1 .0)
+    (laid .rows .last .0)
+    (stored .seal .last .0)
     (search needs)
-    (c .before .before .before .before .before .before .before .before .before .before .before .before .before .before .before .before .before .head .ensures)
-    (c .before .before .before .before .before .before .before .before .before .before .before .before .before .before .copy .ensures .1)
+    (made .head .ensures)
+    (headed .copy .ensures .1)
     (from .ensures)
-    (ap (λ (k : ℕ). from .result + k) (more .ensures ∙ ap (λ (k : ℕ). 48 * k) (rows .ensures)))
-    (c .before .before .before .before .before .before .rows .ensures)
-    (c .before .before .seal .ensures)
+    (ap (λ (k : ℕ). from .result + k) (more .ensures ∙ ap (λ (k : ℕ). 48 * k) (ended .before .rows-in .ensures)))
+    (laid .rows .ensures)
+    (stored .seal .ensures)
 
 pub fill-spec : {M : Type 1} → statement M
 fill-spec =

@@ -6,10 +6,12 @@ use Rattle.filler.proofs.rows.Tie as tie
 
 returns : tie.Need-returns
 returns c =
-    let a = c .before .before .before .before .before .before .before .before .before .before .args in
-    let copy = c .before .before .before .before .before .before .copy in
-    copied-cleared 494 (copy .result) (a .rows .now) (a .part .now) (copy .last .1 .0) (c .before .before .clear .last .0)
-    (search needs) (copy .ensures .0) (search needs) (copy .ensures .1) (c .before .before .clear .ensures)
+    let cleared = c .before .before in
+    let copied = cleared .before .before .before .before in
+    let a = copied .before .before .before .before .args in
+    let copy = copied .copy in
+    copied-cleared 494 (copy .result) (a .rows .now) (a .part .now) (copy .last .1 .0) (cleared .clear .last .0)
+    (search needs) (copy .ensures .0) (search needs) (copy .ensures .1) (cleared .clear .ensures)
 
 pub rows-spec : {M : Type 1} → statement M
 rows-spec =

@@ -17,9 +17,11 @@ cast-part-2 c = below-255 _ _ (c .before .before .sums-of .ensures .1) (fletcher
 
 returns : tie.Need-returns
 returns c =
-    let part = c .before .before .before .before .before .before .args .part .now in
-    stored-two part 510 _ _ (c .before .before .before .before .before .before .pre)
-    ∙ ap₂ (λ (a b : ℕ). take 510 part ++ (a ∷ b ∷ [])) (c .before .before .sums-of .ensures .0) (c .before .before .sums-of .ensures .1)
+    let summed = c .before .before in
+    let start = summed .before .before .before .before in
+    let part = start .args .part .now in
+    stored-two part 510 _ _ (start .pre)
+    ∙ ap₂ (λ (a b : ℕ). take 510 part ++ (a ∷ b ∷ [])) (summed .sums-of .ensures .0) (summed .sums-of .ensures .1)
 
 pub seal-spec : {M : Type 1} → statement M
 seal-spec =
