@@ -25,11 +25,14 @@ loop-holds c =
 
 loop-again : tie.Need-loop-again Inv-loop μ-loop
 loop-again c =
-    let a = c .before .before .before .before .before .before .before .before .before .before .before .args in
-    let l = c .before .before .before .before .before .before .before .before .loop in
-    let from = c .before .before .before .before .before .before .start in
-    let to = c .before .before .before .before .before .offset in
-    let piece : List ℕ = c .before .before .copy .last .1 .0 in (
+    let copied-there = c .before .before in
+    let placed = copied-there .before .before .before in
+    let head = placed .before .before .before in
+    let a = head .before .before .before .args in
+    let l = head .loop in
+    let from = placed .before .start in
+    let to = placed .offset in
+    let piece : List ℕ = copied-there .copy .last .1 .0 in (
       search needs,
       search needs,
       laid-more 48 (rowAt (a .file .now)) (λ i. i + 1) (a .rows .now) (l .done) (to .result) (l .rows) piece
@@ -37,7 +40,7 @@ loop-again c =
           (l .inv .2)
           (to .ensures)
           (copied 48 (from .result) (to .result) (rowStart (l .done + 1)) (a .file .now) (l .rows) piece (search needs)
-          (c .before .before .copy .ensures .1) (from .ensures)),
+          (copied-there .copy .ensures .1) (from .ensures)),
     )
 
 same-length : tie.Need-same-length Inv-loop μ-loop

@@ -29,17 +29,20 @@ loop-holds c =
 
 loop-again : tie.Need-loop-again Inv-loop μ-loop
 loop-again c =
-    let a = c .before .before .before .before .before .before .before .before .before .before .args in
-    let l = c .before .before .before .before .before .before .loop in
-    let from = c .before .before .before .before .offset in (
+    let filled = c .before .before in
+    let placed = filled .before .before in
+    let head = placed .before .before in
+    let a = head .before .before .before .before .args in
+    let l = head .loop in
+    let from = placed .offset in (
       search needs,
       search needs,
       laid-more 512 (blockOf (a .flow .tasks) (a .flow .workers) (a .flow .cells) (a .rows .now)) (λ i. i) (a .out .now)
-          (l .index) (from .result) (l .out) (c .before .before .fill .last .0)
+          (l .index) (from .result) (l .out) (filled .fill .last .0)
           (λ i m. block-long (a .flow .tasks) (a .flow .workers) (a .flow .cells) (a .rows .now) i (search needs) (search needs))
           (l .inv .2)
           (from .ensures)
-          (c .before .before .fill .ensures),
+          (filled .fill .ensures),
     )
 
 same-length : tie.Need-same-length Inv-loop μ-loop

@@ -23,15 +23,19 @@ abbrev μ-loop : tie.MeasureT-loop
 loop-holds : tie.Need-loop-holds Inv-loop μ-loop
 loop-holds c = begun _ 1 _
 
+-- the head of the loop, as seen once a row's place is known
+abbrev head-of : tie.After-offset Inv-loop μ-loop → tie.At-loop Inv-loop μ-loop
+head-of c = c .before .before .before
+
 returns : tie.Need-returns Inv-loop μ-loop
 returns c =
-    refused (c .before .before .before .before .before .before .loop .inv) (search needs)
-    (rw (c .before .before .before .offset .ensures) at (c .before .refusal .ensures)) (c .if2 .taken)
+    let placed = c .before .before .before in
+    refused (head-of placed .loop .inv) (search needs) (rw (placed .offset .ensures) at (c .before .refusal .ensures)) (c .if2 .taken)
 
 loop-again : tie.Need-loop-again Inv-loop μ-loop
 loop-again c =
-    passed (c .before .before .before .before .before .before .loop .inv) (search needs)
-    (rw (c .before .before .before .offset .ensures) at (c .before .refusal .ensures)) (c .if2 .left)
+    let placed = c .before .before .before in
+    passed (head-of placed .loop .inv) (search needs) (rw (placed .offset .ensures) at (c .before .refusal .ensures)) (c .if2 .left)
 
 returns-2 : tie.Need-returns-2 Inv-loop μ-loop
 returns-2 c = done (c .before .before .loop .inv) (search needs)
