@@ -13,9 +13,16 @@ use Rattle.machine.proofs.place.next.Tie as tie
 returns : tie.Need-returns
 returns c = rw (c .before .if1 .taken) (c .after-operation .ensures)
 
--- at any other stage the index is one of an access
-few : (c : tie.Else1) → c .before .before .args .index < mostAccesses
-few c = c .before .before .pre .1 (c .if1 .left)
+-- where the function starts, as seen from any other stage than that of the operations; and that test, once the mode is read
+abbrev from-test : tie.Else1 → tie.Start
+from-test c = c .before .before
+
+abbrev tested : tie.After-is-write → tie.Else1
+tested c = c .before .before
+
+-- there the index is one of an access
+few : (c : tie.Else1) → from-test c .args .index < mostAccesses
+few c = from-test c .pre .1 (c .if1 .left)
 
 is-write-requires : tie.Need-is-write-requires
 is-write-requires c κs = omega (arith, few (c .before))
@@ -34,7 +41,7 @@ after-end-requires-2 c κs = omega (arith, few (c .before .before .before))
 
 -- the flag tells whether that access is a write
 asked : (c : tie.After-is-write)
-    → writes (accessAt (c .before .before .before .before .args .row .now) (c .before .before .before .before .args .index)) ≡ c .is-write .result
+    → writes (accessAt (from-test (tested c) .args .row .now) (from-test (tested c) .args .index)) ≡ c .is-write .result
 asked c = rw (c .before .offset .ensures) at (sym (c .is-write .ensures))
 
 returns-2 : tie.Need-returns-2
@@ -62,7 +69,7 @@ returns-6 c =
 returns-7 : tie.Need-returns-7
 unfolding nextPlace
 returns-7 c =
-    let last : c .before .before .before .before .before .before .args .stage ≡ 4 = omega arith in
+    let last : from-test (tested (c .before .before)) .args .stage ≡ 4 = omega arith in
     rw last (c .after-end2 .ensures)
 
 pub next-spec : {M : Type 1} → statement M

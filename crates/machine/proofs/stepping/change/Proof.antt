@@ -24,9 +24,13 @@ returns c =
     let a = start .args in
     waited (a .row .now) (a .w) (a .number) (a .index) (lent start) (start .pre .1 .0) (a .stage) (c .if1 .taken)
 
+-- where the function starts, as seen past the waits
+abbrev past-waits : tie.After-offset → tie.Start
+past-waits c = c .before .before .before .before
+
 operate-requires : tie.Need-operate-requires
 operate-requires c κs =
-    let start = c .before .before .before .before .before .before in
+    let start = past-waits (c .before .before) in
     let a = start .args in
     let fits = start .pre .0 .0 in
     let at = at-operation (a .row .now) (a .stage) (a .index) (c .before .if2 .taken) (start .pre .0 .1) in
@@ -37,21 +41,32 @@ operate-requires c κs =
 
 returns-2 : tie.Need-returns-2
 returns-2 c =
-    let start = c .before .before .before .before .before .before .before .before .before in
-    let a = start .args in
     let done = c .before .before .operate in
-    let at = c .before .before .before .before .before .offset in
+    let test = c .before .before .before .before in
+    let start = past-waits (test .before) in
+    let a = start .args in
+    let at = test .before .offset in
     let operation = ap (λ (i : ℕ). operated effect (operationAt (a .row .now) i) (a .cells .now)) (at .ensures) in
     made (a .row .now) (a .w) (a .number) (a .index) (lent start) (start .pre .1 .0) (a .stage) (done .last .1 .1 .0)
-    (c .before .before .before .before .if2 .taken)
+    (test .if2 .taken)
     (done .ensures ∙ operation)
 
--- where the function starts, as seen past the operations and past the test of the last stage
+-- and as seen past the operations, once the cell is read, and past the test of the last stage
 abbrev past-operations : tie.Else2 → tie.Start
-past-operations c = c .before .before .before .before .before
+past-operations c = past-waits (c .before)
+
+abbrev past-cell : tie.After-index → tie.Start
+past-cell c = past-operations (c .before .before)
 
 abbrev past-post : tie.Else3 → tie.Start
-past-post c = past-operations (c .before .before .before .before .before)
+past-post c = past-cell (c .before .before .before)
+
+-- where the cell is read, as seen once its counter is; and from the test of the mode
+abbrev cell-at : tie.After-reads → tie.After-index
+cell-at c = c .before .before
+
+abbrev cell-ended : tie.After-is-write → tie.After-index
+cell-ended c = cell-at (c .before .before)
 
 -- there the index is an access's
 access-index : (c : tie.Else2) → past-operations c .args .index < getD (past-operations c .args .row .now) 1 0
@@ -62,24 +77,24 @@ access-index c =
 
 -- the cell that is read is the access's, and it has a counter
 cell-is : (c : tie.After-index)
-    → c .index .result ≡ accessAt (past-operations (c .before .before) .args .row .now) (past-operations (c .before .before) .args .index) .cell
+    → c .index .result ≡ accessAt (past-cell c .args .row .now) (past-cell c .args .index) .cell
 cell-is c = rw (c .before .before .before .offset .ensures) at (c .index .ensures .0)
 
 within : (c : tie.After-index) → c .index .result < mostCells
 within c =
-    let start = past-operations (c .before .before) in
+    let start = past-cell c in
     rw (cell-is c) (start .pre .0 .0 .access-cells (start .args .index) (access-index (c .before .before)))
 
 -- so the step is one at that access
 at-cell : (c : tie.After-index)
-    → AtAccess (past-operations (c .before .before) .args .row .now) (past-operations (c .before .before) .args .w) (past-operations (c .before .before) .args .index) (c .index .result) (lent (past-operations (c .before .before)))
+    → AtAccess (past-cell c .args .row .now) (past-cell c .args .w) (past-cell c .args .index) (c .index .result) (lent (past-cell c))
 at-cell c =
-    let start = past-operations (c .before .before) in
+    let start = past-cell c in
     record { shape = start .pre .1 .0; worker = start .pre .0 .2; within = within c; here = cell-is c }
 
 shared-slice-read-index : tie.Need-shared-slice-read-index
 shared-slice-read-index c =
-    let start = c .before .before .before .before .before .before in
+    let start = past-operations (c .before) in
     omega (arith, access-index (c .before), start .pre .0 .0 .size, start .pre .0 .0 .few-accesses)
 
 index-1-last : tie.Need-index-1-last
@@ -93,64 +108,69 @@ element-set-from-shared c = within (c .before .before .before)
 
 note-requires : tie.Need-note-requires
 note-requires c κs =
-    let start = c .before .before .before .before .before .before .before .before .before .before .before in
+    let read = cell-at (c .before .before) in
+    let start = past-cell read in
     let a = start .args in
-    let read = c .before .before .before .before in
     (start .pre .0 .2, within read, omega (arith, start .pre .1 .1 .private-reads (a .w) (read .index .result)))
 
 returns-3 : tie.Need-returns-3
 returns-3 c =
-    let start = c .before .before .before .before .before .before .before .before .before .before .before .before in
-    posted (start .args .number) (at-cell (c .before .before .before .before .before)) (start .args .stage) (c .note .last .0) (c .before .before .if3 .taken) (c .note .ensures)
+    let post = c .before .before in
+    let read = cell-at (post .before) in
+    let start = past-cell read in
+    posted (start .args .number) (at-cell read) (start .args .stage) (c .note .last .0) (post .if3 .taken) (c .note .ensures)
 
 is-write-requires : tie.Need-is-write-requires
 is-write-requires c κs =
-    let start = c .before .before .before .before .before .before .before .before .before .before in
-    rw (c .before .before .before .before .before .before .offset .ensures)
-    (start .pre .0 .0 .size, omega (arith, access-index (c .before .before .before .before .before), start .pre .0 .0 .few-accesses))
+    let start = past-post c in
+    let other = cell-at (c .before) .before .before in
+    rw (other .before .offset .ensures) (start .pre .0 .0 .size, omega (arith, access-index other, start .pre .0 .0 .few-accesses))
 
 -- the stage is 3 where it is none of the others
 third : (c : tie.Else3) → past-post c .args .stage ≡ 3
 third c =
     let start = past-post c in
     let a = start .args in
-    omega (arith, five-stages (a .row .now) (a .stage) (a .index) (start .pre .0 .1), c .before .before .before .before .before .if2 .left)
+    omega (arith, five-stages (a .row .now) (a .stage) (a .index) (start .pre .0 .1), cell-at (c .before) .before .before .if2 .left)
 
 -- the mode that is read is the access's
 mode-is : (c : tie.After-is-write)
     → writes (accessAt (past-post (c .before) .args .row .now) (past-post (c .before) .args .index)) ≡ c .is-write .result
 mode-is c =
-    ap (λ (i : ℕ). writes (accessAt (past-post (c .before) .args .row .now) i)) (sym (c .before .before .before .before .before .before .before .offset .ensures))
+    ap (λ (i : ℕ). writes (accessAt (past-post (c .before) .args .row .now) i)) (sym (cell-ended c .before .before .before .offset .ensures))
     ∙ sym (c .is-write .ensures)
 
 element-set-from-shared-2 : tie.Need-element-set-from-shared-2
-element-set-from-shared-2 c = within (c .before .before .before .before .before)
+element-set-from-shared-2 c = within (cell-ended (c .before))
 
 returns-4 : tie.Need-returns-4
 returns-4 c =
-    let start = c .before .before .before .before .before .before .before .before .before .before .before .before in
-    zeroed (start .args .number) (at-cell (c .before .before .before .before .before)) (start .args .stage) (third (c .before .before)) (mode-is (c .before) ∙ c .if4 .taken)
+    let read = cell-ended (c .before) in
+    let start = past-cell read in
+    zeroed (start .args .number) (at-cell read) (start .args .stage) (third (c .before .before)) (mode-is (c .before) ∙ c .if4 .taken)
 
 add-t25 : tie.Need-add-t25
 add-t25 c =
-    let start = c .before .before .before .before .before .before .before .before .before .before .before .before in
-    omega (arith, start .pre .1 .1 .shared-reads (c .before .before .before .before .before .index .result))
+    let read = cell-ended (c .before) in
+    omega (arith, past-cell read .pre .1 .1 .shared-reads (read .index .result))
 
 element-set-from-shared-3 : tie.Need-element-set-from-shared-3
-element-set-from-shared-3 c = within (c .before .before .before .before .before)
+element-set-from-shared-3 c = within (cell-ended (c .before))
 
 note-requires-2 : tie.Need-note-requires-2
 note-requires-2 c κs =
-    let start = c .before .before .before .before .before .before .before .before .before .before .before .before .before in
+    let read = cell-ended (c .before .before) in
+    let start = past-cell read in
     let a = start .args in
-    let read = c .before .before .before .before .before .before in
     (start .pre .0 .2, within read, omega (arith, start .pre .1 .1 .private-reads (a .w) (read .index .result)))
 
 returns-5 : tie.Need-returns-5
 returns-5 c =
-    let start = c .before .before .before .before .before .before .before .before .before .before .before .before .before .before in
-    ended (start .args .number) (at-cell (c .before .before .before .before .before .before .before)) (start .args .stage) (c .note2 .last .0) (third (c .before .before .before .before))
-    (mode-is (c .before .before .before) ∙ c .before .before .if4 .left)
+    let asked = c .before .before .before in
+    let read = cell-ended asked in
+    let start = past-cell read in
+    ended (start .args .number) (at-cell read) (start .args .stage) (c .note2 .last .0) (third (asked .before))
+    (mode-is asked ∙ c .before .before .if4 .left)
     (c .note2 .ensures)
 
 pub change-spec : {M : Type 1} → statement M

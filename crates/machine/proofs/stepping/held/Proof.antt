@@ -33,18 +33,32 @@ advances m w row (suc (suc (suc (suc stage)))) index h = refl
 returns : tie.Need-returns
 returns c = let a = c .before .before .args in advances _ (a .w) (a .row .now) (a .stage) (a .index) (c .if1 .taken)
 
+-- where the function starts, as seen from a wait; and that wait, once the cell is read
+abbrev from-wait : tie.Else1 → tie.Start
+from-wait c = c .before .before
+
+abbrev wait-of : tie.After-index → tie.Else1
+wait-of c = c .before .before .before
+
+-- where the cell is read, as seen once the last writes differ, and once the reads do
+abbrev write-of : tie.Else3 → tie.After-index
+write-of c = c .before .before .before .before
+
+abbrev reads-of : tie.Else4 → tie.After-index
+reads-of c = c .before .before .before .before
+
 -- at a wait the index is one of an access, and its cell has a counter
 known : (c : tie.Else1)
-    → (c .before .before .args .index < mostAccesses) × (accessAt (c .before .before .args .row .now) (c .before .before .args .index) .cell < mostCells)
-known c = c .before .before .pre .1 (c .if1 .left)
+    → (from-wait c .args .index < mostAccesses) × (accessAt (from-wait c .args .row .now) (from-wait c .args .index) .cell < mostCells)
+known c = from-wait c .pre .1 (c .if1 .left)
 
 -- the cell that is read
 cell-is : (c : tie.After-index)
-    → c .index .result ≡ getD (c .before .before .before .before .before .args .row .now) (4 + 2 * c .before .before .before .before .before .args .index) 0
+    → c .index .result ≡ getD (from-wait (wait-of c) .args .row .now) (4 + 2 * from-wait (wait-of c) .args .index) 0
 cell-is c = rw (c .before .before .offset .ensures) at (c .index .ensures .0)
 
 within : (c : tie.After-index) → c .index .result < mostCells
-within c = rw (cell-is c) (known (c .before .before .before) .1)
+within c = rw (cell-is c) (known (wait-of c) .1)
 
 shared-slice-read-index : tie.Need-shared-slice-read-index
 shared-slice-read-index c = omega (arith, known (c .before .before) .0)
@@ -62,13 +76,13 @@ returns-2 c =
     rw (c .before .before .before .if2 .taken, ← cell-is read, eq-eqb _ _ (c .if3 .taken))
 
 shared-slice-read-wide : tie.Need-shared-slice-read-wide
-shared-slice-read-wide c = omega (arith, known (c .before .before .before .before .before .before .before .before) .0)
+shared-slice-read-wide c = omega (arith, known (wait-of (write-of (c .before))) .0)
 
 returns-3 : tie.Need-returns-3
 unfolding outcome tryAt
 returns-3 c =
     let tested = c .before .before in
-    let read = tested .before .before .before .before in
+    let read = write-of tested in
     rw (tested .before .before .before .if2 .taken, ← cell-is read, ne-eqb _ _ (tested .if3 .left), c .wide .ensures .0, read .index .ensures .0)
 
 index-2-if4 : tie.Need-index-2-if4
@@ -81,18 +95,18 @@ returns-4 : tie.Need-returns-4
 unfolding outcome tryAt
 returns-4 c =
     let read = c .before .before .before .before in
-    let one : read .before .before .before .before .before .args .stage ≡ 1 = omega arith in
+    let one : from-wait (wait-of read) .args .stage ≡ 1 = omega arith in
     rw (one, ← cell-is read, eq-eqb _ _ (c .if4 .taken))
 
 shared-slice-read-wide-2 : tie.Need-shared-slice-read-wide-2
-shared-slice-read-wide-2 c = omega (arith, known (c .before .before .before .before .before .before .before .before) .0)
+shared-slice-read-wide-2 c = omega (arith, known (wait-of (reads-of (c .before))) .0)
 
 returns-5 : tie.Need-returns-5
 unfolding outcome tryAt
 returns-5 c =
     let tested = c .before .before in
-    let read = tested .before .before .before .before in
-    let one : read .before .before .before .before .before .args .stage ≡ 1 = omega arith in
+    let read = reads-of tested in
+    let one : from-wait (wait-of read) .args .stage ≡ 1 = omega arith in
     rw (one, ← cell-is read, ne-eqb _ _ (tested .if4 .left), c .wide2 .ensures .0, read .index .ensures .0)
 
 pub held-spec : {M : Type 1} → statement M

@@ -18,6 +18,20 @@ use Rattle.machine.proofs.stepping.own_step.Tie as tie
 abbrev lent : tie.Start → Arrays
 lent start = arrays (start .args .cells .now) (start .args .shared .now) (start .args .private .now) (start .args .places .now)
 
+-- where the function starts, as seen once the place is read, and once it is known whether the step is held
+abbrev from-place : tie.After-index → tie.Start
+from-place c = c .before .before .before .before .before
+
+abbrev from-held : tie.After-held → tie.Start
+from-held c = from-place (c .before .before .before)
+
+-- where that is known, as seen from a step that advances; and where it advances, once its change is made
+abbrev held-at : tie.After-enum-told → tie.After-held
+held-at c = c .before .before
+
+abbrev advances-at : tie.After-change → tie.After-enum-told
+advances-at c = c .before .before .before .before
+
 -- away from the operations the worker stands at an access
 access-at : (start : tie.Start) → (stageAt (lent start) (start .args .w) ≡ 2 → ⊥)
     → (indexAt (lent start) (start .args .w) < mostAccesses)
@@ -31,7 +45,7 @@ access-at start other =
 
 held-requires : tie.Need-held-requires
 held-requires c κs =
-    let start = c .before .before .before .before .before .before .before in
+    let start = from-place (c .before .before) in
     let a = start .args in
     ((start .pre .0 .0 .size, start .pre .0 .1), λ wait. access-at start (λ two. omega arith))
 
@@ -40,7 +54,7 @@ enum-told c = search needs
 
 next-requires : tie.Need-next-requires
 next-requires c κs =
-    let start = c .before .before .before .before .before .before .before .before .before .before .before .before .before .before .before .before in
+    let start = from-held (held-at (advances-at (c .before .before))) in
     let a = start .args in
     let kept = lent start in
     let stands = start .pre .1 .0 in
@@ -56,16 +70,18 @@ next-requires c κs =
 
 returns : tie.Need-returns
 returns c =
-    let start = c .before .before .before .before .before .before .before .before .before .before .before .before .before .before .before .before .before in
+    let made = c .before .before .before in
+    let told = advances-at made in
+    let start = from-held (held-at told) in
     let a = start .args in
-    let held = c .before .before .before .before .before .before .before .before .before .held in
-    let changed = c .before .before .before .change in
+    let held = held-at told .held in
+    let changed = made .change in
     own-step-made (a .row .now) (a .w) (lent start) (outcomeOf (held .result))
     (changed .last .1 .1 .1 .1 .1 .0)
     (changed .last .1 .1 .1 .1 .1 .1 .0)
     (changed .last .1 .1 .1 .1 .1 .1 .1 .0)
     (c .next .result)
-    (ap outcomeOf (c .before .before .before .before .before .before .before .enum-told .given .1))
+    (ap outcomeOf (told .enum-told .given .1))
     (held .ensures)
     (changed .ensures)
     (c .next .ensures)
@@ -73,7 +89,7 @@ returns c =
 
 returns-2 : tie.Need-returns-2
 returns-2 c =
-    let start = c .before .before .before .before .before .before .before .before .before in
+    let start = from-held (c .before) in
     let a = start .args in
     let held = c .before .held in
     own-step-held (a .row .now) (a .w) (lent start) (outcomeOf (held .result)) (start .pre .1 .1 .0) (held .ensures)
