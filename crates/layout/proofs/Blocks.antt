@@ -87,14 +87,14 @@ few-rows blocks tasks workers cells index block result e h =
 
 -- ---- a block that breaks no rule
 
-pub record Sound (blocks tasks workers cells index : ℕ) (block : List ℕ) : Type 0 where
+pub record BlockSound (blocks tasks workers cells index : ℕ) (block : List ℕ) : Type 0 where
   pub check : checkSound block ≡ true
   pub head : headSound blocks index block ≡ true
   pub sizes : sizesSound blocks tasks workers cells index block ≡ true
   pub rest : restSound block ≡ true
 
 pub sound : (blocks tasks workers cells index : ℕ) (block : List ℕ) → blockRefusal blocks tasks workers cells index block ≡ 0
-    → Sound blocks tasks workers cells index block
+    → BlockSound blocks tasks workers cells index block
 unfolding blockRefusal
 sound blocks tasks workers cells index block h =
     let s2 = first-kept 2 (checkSound block) _ (omega arith) h in

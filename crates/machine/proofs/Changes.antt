@@ -58,19 +58,19 @@ small-index row cells stage index fits stands = go (eqb stage 2) refl
 -- ---- what is stored there
 
 -- the cells and the counters after are what the rules change them to
-abbrev pub Changed : ℕ → ℕ → Arrays → Try → Arrays → Type 0
-Changed w number before try after =
+abbrev pub ChangedBy : ℕ → ℕ → Arrays → Try → Arrays → Type 0
+ChangedBy w number before try after =
     Shape (after .shared) (after .private) × (machineOf [] after ≡ change effect number (machineOf [] before) w try)
 
 module _ (row : List ℕ) (w number index : ℕ) (kept : Arrays) (shape : Shape (kept .shared) (kept .private)) where
-  pub waited : (stage : ℕ) → stage < 2 → Changed w number kept (tryAt row stage index) kept
+  pub waited : (stage : ℕ) → stage < 2 → ChangedBy w number kept (tryAt row stage index) kept
   unfolding tryAt change
   waited zero h = (shape, refl)
   waited (suc zero) h = (shape, refl)
   waited (suc (suc stage)) h = absurd (omega arith)
 
   pub made : (stage : ℕ) (cells′ : List ℕ) → stage ≡ 2 → cells′ ≡ operated effect (operationAt row index) (kept .cells)
-      → Changed w number kept (tryAt row stage index) (arrays cells′ (kept .shared) (kept .private) (kept .places))
+      → ChangedBy w number kept (tryAt row stage index) (arrays cells′ (kept .shared) (kept .private) (kept .places))
   unfolding tryAt change
   made stage cells′ e is =
       let m = machineOf [] kept in
@@ -127,7 +127,7 @@ module _ {row : List ℕ} {w index cell : ℕ} {kept : Arrays} (number : ℕ) (a
       ∙ ap (λ (s : ℕ). tryAt row s index) (sym e)
 
   pub zeroed : (stage : ℕ) → stage ≡ 3 → writes (accessAt row index) ≡ true
-      → Changed w number kept (tryAt row stage index)
+      → ChangedBy w number kept (tryAt row stage index)
       (arrays (kept .cells) (set (kept .shared) cell (getD ours 0 0 ∷ 0 ∷ [])) (kept .private) (kept .places))
   unfolding change
   zeroed stage e t =
@@ -138,7 +138,7 @@ module _ {row : List ℕ} {w index cell : ℕ} {kept : Arrays} (number : ℕ) (a
 
   pub ended : (stage : ℕ) (private′ : List (List (List ℕ))) → stage ≡ 3 → writes (accessAt row index) ≡ false
       → private′ ≡ noted (kept .private) w cell false number
-      → Changed w number kept (tryAt row stage index)
+      → ChangedBy w number kept (tryAt row stage index)
       (arrays (kept .cells) (set (kept .shared) cell (getD ours 0 0 ∷ (getD ours 1 0 + 1) ∷ [])) private′ (kept .places))
   unfolding change
   ended stage private′ e t is =
@@ -146,7 +146,7 @@ module _ {row : List ℕ} {w index cell : ℕ} {kept : Arrays} (number : ℕ) (a
       (both .0, tried stage (endRead cell) _ (first-end stage false e t) (both .1))
 
   pub posted : (stage : ℕ) (private′ : List (List (List ℕ))) → stage ≡ 4 → private′ ≡ noted (kept .private) w cell true number
-      → Changed w number kept (tryAt row stage index)
+      → ChangedBy w number kept (tryAt row stage index)
       (arrays (kept .cells) (set (kept .shared) cell (number ∷ getD ours 1 0 ∷ [])) private′ (kept .places))
   unfolding tryAt change
   posted stage private′ e is =

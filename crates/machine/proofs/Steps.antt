@@ -24,7 +24,7 @@ use Rattle.machine.specs.Outcomes.{outcomeOf}
 use Rattle.machine.specs.Arrays.{Arrays, arrays, machineOf, placeOf, tryAt, Stands, nextPlace, madeIn, madeAt, notedAll, Shape, RowFits, Ready, Standing, Steppable, settingIn, passedAt, stageAt, indexAt, movesOn, goesTo, placesAfter, OwnStep, StepDone}
 use Rattle.machine.proofs.Places.{access-count, access-there, try-there, next-there, next-stands, none-made}
 use Rattle.machine.proofs.Machines.{stored-at, all-noted-only, row-replaced, place-stored, outcome-of, change-of}
-use Rattle.machine.proofs.Changes.{Changed}
+use Rattle.machine.proofs.Changes.{ChangedBy}
 use Rattle.machine.proofs.Outcome.{the-type}
 
 -- ---- an own step
@@ -68,7 +68,7 @@ module _ (row : List ℕ) (w : ℕ) (kept : Arrays) where
   pub own-step-made : (why : Outcome) (cells′ : List ℕ) (shared′ : List (List ℕ)) (private′ : List (List (List ℕ))) (next : List ℕ)
       → why ≡ advanced
       → why ≡ outcome (machineOf [] (arrays [] (kept .shared) (kept .private) [])) w try
-      → Changed w number (arrays (kept .cells) (kept .shared) (kept .private) []) try (arrays cells′ shared′ private′ [])
+      → ChangedBy w number (arrays (kept .cells) (kept .shared) (kept .private) []) try (arrays cells′ shared′ private′ [])
       → next ≡ then
       → w < length (kept .places)
       → OwnStep row w kept why (arrays cells′ shared′ private′ (set (kept .places) w next))

@@ -9,17 +9,17 @@ use Rattle.layout.proofs.Lists.{all-more, all-breaks}
 use Rattle.layout.proofs.Modes.{all-whole}
 
 -- what the loop knows where it stands, of so many indexes
-pub record Held {A : Type 0} (rule : A → Bool) (f : ℕ → A) (count here : ℕ) : Type 0 where
+pub record HoldsSoFar {A : Type 0} (rule : A → Bool) (f : ℕ → A) (count here : ℕ) : Type 0 where
   pub most : here ≤ count
   pub so-far : all rule (each here f) ≡ true
 
-pub held-none : {A : Type 0} (rule : A → Bool) (f : ℕ → A) (count : ℕ) → Held rule f count 0
+pub held-none : {A : Type 0} (rule : A → Bool) (f : ℕ → A) (count : ℕ) → HoldsSoFar rule f count 0
 unfolding each all
 held-none rule f count = record { most = omega arith; so-far = refl }
 
 -- the code's own test of the rule is the rule's at this index
-module _ {A : Type 0} {rule : A → Bool} {f : ℕ → A} {count here : ℕ} (held : Held rule f count here) where
-  pub held-more : {test : Bool} → here < count → test ≡ rule (f here) → not test ≡ false → Held rule f count (here + 1)
+module _ {A : Type 0} {rule : A → Bool} {f : ℕ → A} {count here : ℕ} (held : HoldsSoFar rule f count here) where
+  pub held-more : {test : Bool} → here < count → test ≡ rule (f here) → not test ≡ false → HoldsSoFar rule f count (here + 1)
   held-more {test} more is left =
       record { most = omega arith; so-far = all-more rule here f (held .so-far) (sym is ∙ not-false test left) }
 

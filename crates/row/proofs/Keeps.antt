@@ -13,16 +13,16 @@ use Rattle.layout.proofs.Lists.{and-left}
 use Rattle.layout.proofs.Modes.{each-drop-all, operation-cells, earlier, keep-next}
 use Rattle.row.specs.Table.{Table, keepsTable}
 use Rattle.row.proofs.Table.{table-operation, keeps-same}
-use Rattle.row.proofs.Operation.{Read}
+use Rattle.row.proofs.Operation.{ReadsOf}
 
 -- what is known once the operations before i have kept to the modes
-pub record Kept (row : List ℕ) (i : ℕ) (modes : List ℕ) : Type 0 where
+pub record KeptSoFar (row : List ℕ) (i : ℕ) (modes : List ℕ) : Type 0 where
   pub most : i ≤ at row 2
   pub table : Table (taskOf row .accesses) (earlier i (operationAt row)) modes
   pub rest : modesSound (taskOf row)
       ≡ allKeepModes (taskOf row .accesses) (earlier i (operationAt row)) (drop i (taskOf row .operations))
 
-pub kept-none : (row modes : List ℕ) → Table (taskOf row .accesses) [] modes → Kept row 0 modes
+pub kept-none : (row modes : List ℕ) → Table (taskOf row .accesses) [] modes → KeptSoFar row 0 modes
 unfolding earlier
 kept-none row modes table = record { most = zero-le; table = table; rest = refl }
 
@@ -33,13 +33,13 @@ inside (mode ∷ modes) zero h = suc-le-suc zero-le
 inside (mode ∷ modes) (suc cell) h = suc-le-suc (inside modes cell h)
 
 -- one operation more: its cells are read from the row
-pub record Step (row : List ℕ) (i a b : ℕ) (modes : List ℕ) : Type 0 where
+pub record OperationTurn (row : List ℕ) (i a b : ℕ) (modes : List ℕ) : Type 0 where
   pub sound : operationsSound mostCells row ≡ true
   pub more : i < at row 2
-  pub read : Read row i a b
-  pub kept : Kept row i modes
+  pub read : ReadsOf row i a b
+  pub kept : KeptSoFar row i modes
 
-module _ {row : List ℕ} {i a b : ℕ} {modes : List ℕ} (step : Step row i a b modes) where
+module _ {row : List ℕ} {i a b : ℕ} {modes : List ℕ} (step : OperationTurn row i a b modes) where
   pub step-cells : (a < mostCells) × (b < mostCells)
   step-cells = rw (step .read .of-a, step .read .of-b) (operation-cells mostCells row i (step .sound) (step .more))
 
@@ -59,7 +59,7 @@ module _ {row : List ℕ} {i a b : ℕ} {modes : List ℕ} (step : Step row i a 
   pub breaks : keepsTable (at row (12 + 6 * i)) (getD modes a 0) (getD modes b 0) ≡ false → modesSound (taskOf row) ≡ false
   breaks broken = rw broken at next
 
-  pub kept-next : keepsTable (at row (12 + 6 * i)) (getD modes a 0) (getD modes b 0) ≡ true → Kept row (i + 1) (set modes a 3)
+  pub kept-next : keepsTable (at row (12 + 6 * i)) (getD modes a 0) (getD modes b 0) ≡ true → KeptSoFar row (i + 1) (set modes a 3)
   unfolding earlier
   kept-next keeps =
       let writes = and-left (mayWrite (getD modes a 0)) _ (and-left _ _ keeps) in
@@ -73,7 +73,7 @@ module _ {row : List ℕ} {i a b : ℕ} {modes : List ℕ} (step : Step row i a 
       }
 
 -- once all have
-pub kept-all : (row : List ℕ) (i : ℕ) (modes : List ℕ) → at row 2 ≤ i → Kept row i modes → modesSound (taskOf row) ≡ true
+pub kept-all : (row : List ℕ) (i : ℕ) (modes : List ℕ) → at row 2 ≤ i → KeptSoFar row i modes → modesSound (taskOf row) ≡ true
 unfolding taskOf allKeepModes
 kept-all row i modes h kept =
     kept .rest ∙ ap (allKeepModes (taskOf row .accesses) (earlier i (operationAt row))) (each-drop-all (at row 2) (operationAt row) i h)

@@ -11,11 +11,11 @@ use Rattle.layout.specs.Flow.{upTo}
 use Rattle.layout.specs.Row.{spareAt, operationSound}
 
 -- the cells of an operation, as they were read
-pub record Read (row : List ℕ) (i a b : ℕ) : Type 0 where
+pub record ReadsOf (row : List ℕ) (i a b : ℕ) : Type 0 where
   pub of-a : a ≡ at row (13 + 6 * i)
   pub of-b : b ≡ at row (14 + 6 * i)
 
-module _ {row : List ℕ} {i a b : ℕ} (cells : ℕ) (read : Read row i a b) where
+module _ {row : List ℕ} {i a b : ℕ} (cells : ℕ) (read : ReadsOf row i a b) where
   -- with code 1 b is zero
   pub sound-first : at row (12 + 6 * i) ≡ 1
       → (upTo 6 (at row (12 + 6 * i)) && ltb a cells && ltb b cells && eqb b 0 && eqb (spareAt row i) 0) ≡ operationSound cells row i

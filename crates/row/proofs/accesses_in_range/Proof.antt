@@ -2,12 +2,12 @@
 use Prim.Native.Nat.{_-_}
 use borrow.Author.Needs.{needs}
 use Rattle.layout.specs.Row.{accessAt, accessInRange}
-use Rattle.row.proofs.Indexes.{Held, held-none, held-more, held-broken, held-all}
+use Rattle.row.proofs.Indexes.{HoldsSoFar, held-none, held-more, held-broken, held-all}
 use Rattle.row.proofs.accesses_in_range.Statement.{statement}
 use Rattle.row.proofs.accesses_in_range.Tie as tie
 
 abbrev Inv-loop : tie.InvT-loop
-Inv-loop row count cells j₀ j = Held (accessInRange cells) (accessAt row) count j
+Inv-loop row count cells j₀ j = HoldsSoFar (accessInRange cells) (accessAt row) count j
 
 abbrev μ-loop : tie.MeasureT-loop
 μ-loop row count cells j₀ j = count - j

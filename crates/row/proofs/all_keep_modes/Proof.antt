@@ -5,12 +5,12 @@ use borrow.Author.Needs.{needs}
 use borrow.Author.Tests.{not-true, not-false}
 use Rattle.layout.specs.Flow.{mostOperations}
 use Rattle.layout.proofs.Modes.{counts-kept}
-use Rattle.row.proofs.Keeps.{Kept, Step, kept-none, step-cells, breaks, kept-next, kept-all}
+use Rattle.row.proofs.Keeps.{KeptSoFar, OperationTurn, kept-none, step-cells, breaks, kept-next, kept-all}
 use Rattle.row.proofs.all_keep_modes.Statement.{statement}
 use Rattle.row.proofs.all_keep_modes.Tie as tie
 
 abbrev Inv-loop : tie.InvT-loop
-Inv-loop row modes₀ count i₀ modes i = (i ≤ count) × (count ≤ mostOperations) × Kept row i modes
+Inv-loop row modes₀ count i₀ modes i = (i ≤ count) × (count ≤ mostOperations) × KeptSoFar row i modes
 
 abbrev μ-loop : tie.MeasureT-loop
 μ-loop row modes₀ count i₀ modes i = count - i
@@ -31,7 +31,7 @@ abbrev head-of : tie.After-index3 Inv-loop μ-loop → tie.At-loop Inv-loop μ-l
 head-of c = c .before .before .before .before .before
 
 step : (c : tie.After-index3 Inv-loop μ-loop)
-    → Step (from-loop (head-of c) .args .row .now) (head-of c .loop .i) (c .before .before .index2 .result) (c .index3 .result) (head-of c .loop .modes)
+    → OperationTurn (from-loop (head-of c) .args .row .now) (head-of c .loop .i) (c .before .before .index2 .result) (c .index3 .result) (head-of c .loop .modes)
 step c =
     let head = head-of c in
     record {

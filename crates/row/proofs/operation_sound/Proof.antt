@@ -1,6 +1,6 @@
 -- `row::operation_sound` meets its contract: the bytes that are compared are those of operation i, and of its zeros the one that the code asks for.
 use borrow.Author.Needs.{needs}
-use Rattle.row.proofs.Operation.{Read, sound-first, sound-other}
+use Rattle.row.proofs.Operation.{ReadsOf, sound-first, sound-other}
 use Rattle.row.proofs.operation_sound.Statement.{statement}
 use Rattle.row.proofs.operation_sound.Tie as tie
 
@@ -16,7 +16,7 @@ abbrev b-read : tie.After-word → tie.After-wide2
 b-read c = c .before .before .before .before
 
 read : (c : tie.After-word)
-    → Read (from-a (a-read (b-read c)) .args .row .now) (from-a (a-read (b-read c)) .args .i) (a-read (b-read c) .wide .result) (b-read c .wide2 .result)
+    → ReadsOf (from-a (a-read (b-read c)) .args .row .now) (from-a (a-read (b-read c)) .args .i) (a-read (b-read c) .wide .result) (b-read c .wide2 .result)
 read c = record { of-a = a-read (b-read c) .wide .ensures .0; of-b = b-read c .wide2 .ensures .0 }
 
 returns : tie.Need-returns

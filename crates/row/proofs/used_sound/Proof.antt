@@ -2,12 +2,12 @@
 use Prim.Native.Nat.{_-_}
 use borrow.Author.Needs.{needs}
 use Rattle.layout.specs.Row.{operationSound}
-use Rattle.row.proofs.Indexes.{Held, held-none, held-more, held-broken, held-all}
+use Rattle.row.proofs.Indexes.{HoldsSoFar, held-none, held-more, held-broken, held-all}
 use Rattle.row.proofs.used_sound.Statement.{statement}
 use Rattle.row.proofs.used_sound.Tie as tie
 
 abbrev Inv-loop : tie.InvT-loop
-Inv-loop row count cells i₀ i = Held (operationSound cells row) (λ k. k) count i
+Inv-loop row count cells i₀ i = HoldsSoFar (operationSound cells row) (λ k. k) count i
 
 abbrev μ-loop : tie.MeasureT-loop
 μ-loop row count cells i₀ i = count - i
