@@ -19,27 +19,36 @@ Inv-loop row cells₀ count i₀ cells i =
 abbrev μ-loop : tie.MeasureT-loop
 μ-loop row cells₀ count i₀ cells i = count - i
 
+-- where the function starts, as seen from the head of the loop
+abbrev from-loop : tie.At-loop Inv-loop μ-loop → tie.Start Inv-loop μ-loop
+from-loop c = c .before .before .before .before .before
+
 operate-requires : tie.Need-operate-requires Inv-loop μ-loop
 operate-requires c κs =
-    let a = c .before .before .before .before .before .before .before .args in
-    let inv = c .before .before .loop .inv in
-    can-operate (a .row .now) (a .cells .now) (c .before .before .loop .cells) (c .before .before .loop .i) _ (c .before .before .before .before .before .before .before .pre) (c .before .loop-test .taken) (inv .1) (inv .2)
+    let head = c .before .before in
+    let start = from-loop head in
+    let a = start .args in
+    let inv = head .loop .inv in
+    can-operate (a .row .now) (a .cells .now) (head .loop .cells) (head .loop .i) _ (start .pre) (c .before .loop-test .taken) (inv .1) (inv .2)
 
 loop-again : tie.Need-loop-again Inv-loop μ-loop
 unfolding taskOf
 loop-again c =
-    let row = c .before .before .before .before .before .before .before .before .before .before .args .row .now in
-    let inv = c .before .before .before .before .before .loop .inv in (
+    let made = c .before .before in
+    let head = made .before .before .before in
+    let row = from-loop head .args .row .now in
+    let l = head .loop in (
       search needs,
       search needs,
       search needs,
-      operation-next effect (getD row 2 0) (operationAt row) (c .before .before .before .before .before .loop .i) _ (c .before .before .before .before .before .loop .cells) (search needs) (inv .3) ∙ ap (afterOperations effect (drop (c .before .before .before .before .before .loop .i + 1) (taskOf row .operations))) (sym (c .before .before .operate .ensures)),
+      operation-next effect (getD row 2 0) (operationAt row) (l .i) _ (l .cells) (search needs) (l .inv .3)
+          ∙ ap (afterOperations effect (drop (l .i + 1) (taskOf row .operations))) (sym (made .operate .ensures)),
     )
 
 returns : tie.Need-returns Inv-loop μ-loop
 unfolding taskOf
 returns c =
-    let row = c .before .before .before .before .before .before .args .row .now in
+    let row = from-loop (c .before) .args .row .now in
     let inv = c .before .loop .inv in
     operations-end effect (getD row 2 0) (operationAt row) (c .before .loop .i) _ (c .before .loop .cells) (search needs) (inv .3)
 

@@ -25,21 +25,35 @@ abbrev μ-loop : tie.MeasureT-loop
 loop-holds : tie.Need-loop-holds Inv-loop μ-loop
 loop-holds c = search needs
 
+-- where the function starts, as seen from the head of the loop; and that head, once the row's place is known
+abbrev from-loop : tie.At-loop Inv-loop μ-loop → tie.Start Inv-loop μ-loop
+from-loop c = c .before .before .before
+
+abbrev head-of : tie.After-start Inv-loop μ-loop → tie.At-loop Inv-loop μ-loop
+head-of c = c .before .before
+
 plain-task-requires : tie.Need-plain-task-requires Inv-loop μ-loop
 plain-task-requires c κs =
-    let a = c .before .before .before .before .before .before .before .args in
-    let inv = c .before .before .before .before .loop .inv in
-    row-fits (a .file .now) (a .cells .now) (c .before .before .before .before .loop .cells) (a .tasks) (c .before .before .before .before .loop .done) _ (c .before .before .before .before .before .before .before .pre) (c .before .before .before .loop-test .taken) (c .before .before .start .ensures) (inv .1)
+    let placed = c .before .before in
+    let head = head-of placed in
+    let start = from-loop head in
+    let a = start .args in
+    let l = head .loop in
+    row-fits (a .file .now) (a .cells .now) (l .cells) (a .tasks) (l .done) _ (start .pre) (placed .before .loop-test .taken) (placed .start .ensures) (l .inv .1)
 
 loop-again : tie.Need-loop-again Inv-loop μ-loop
 loop-again c =
-    let a = c .before .before .before .before .before .before .before .before .before .before .args in
-    let inv = c .before .before .before .before .before .before .before .loop .inv in (
+    let made = c .before .before in
+    let placed = made .before .before .before in
+    let head = head-of placed in
+    let a = from-loop head .args in
+    let l = head .loop in
+    let from = placed .start in (
       search needs,
       search needs,
-      task-next effect (a .tasks) (λ i. taskOf (rowAt (a .file .now) (i + 1))) (c .before .before .before .before .before .before .before .loop .done) _ (c .before .before .before .before .before .before .before .loop .cells) (c .before .before .before .before .before .before .loop-test .taken) (inv .2)
-          ∙ ap (afterTasks effect (drop (c .before .before .before .before .before .before .before .loop .done + 1) (tasksIn (a .file .now) (a .tasks))))
-          (sym (c .before .before .plain-task .ensures ∙ ap (λ (row : List ℕ). afterOperations effect (taskOf row .operations) (c .before .before .before .before .before .before .before .loop .cells)) (row-there (a .file .now) (c .before .before .before .before .before .start .result) (c .before .before .before .before .before .before .before .loop .done + 1) (c .before .before .before .before .before .start .ensures)))),
+      task-next effect (a .tasks) (λ i. taskOf (rowAt (a .file .now) (i + 1))) (l .done) _ (l .cells) (placed .before .loop-test .taken) (l .inv .2)
+          ∙ ap (afterTasks effect (drop (l .done + 1) (tasksIn (a .file .now) (a .tasks))))
+          (sym (made .plain-task .ensures ∙ ap (λ (row : List ℕ). afterOperations effect (taskOf row .operations) (l .cells)) (row-there (a .file .now) (from .result) (l .done + 1) (from .ensures)))),
     )
 
 returns : tie.Need-returns Inv-loop μ-loop

@@ -10,14 +10,26 @@ use Rattle.run.proofs.Outcomes.{file-refused, cells-refused, plain-pass
 use Rattle.run.proofs.scheduled.run.Statement.{statement}
 use Rattle.run.proofs.scheduled.run.Tie as tie
 
+-- where the function starts, as seen after the check
+abbrev from-check : tie.After-check → tie.Start
+from-check c = c .before .before .before .before
+
+-- the check, as seen once it is passed; and that, once the cells are as many as the flow's
+abbrev checked : tie.Else1 → tie.After-check
+checked c = c .before .before
+
+abbrev accepted : tie.Else2 → tie.Else1
+accepted c = c .before .before
+
 -- the cells are as many as the flow's
-sized : (c : tie.Else2) → length (c .before .before .before .before .before .before .before .before .args .cells .now) ≡ c .before .before .before .before .check .result .cells
+sized : (c : tie.Else2) → length (from-check (checked (accepted c)) .args .cells .now) ≡ checked (accepted c) .check .result .cells
 sized c = c .if2 .left ∙ c .before .offset .ensures
 
 returns : tie.Need-returns
 returns c =
-    let a = c .before .before .before .before .before .before .before .args in
-    let met = c .before .before .before .check in
+    let after = c .before .before .before in
+    let a = from-check after .args in
+    let met = after .check in
     let some = c .before .if1 .taken in
     let answer = refusal (met .result .number) (met .result .place) in
     run-refused (a .file .now) (a .cells .now) (a .schedule .now) answer (c .refused .result) some
@@ -26,43 +38,61 @@ returns c =
 
 returns-2 : tie.Need-returns-2
 returns-2 c =
-    let a = c .before .before .before .before .before .before .before .before .before .args in
+    let passed = c .before .before .before in
+    let after = checked passed in
+    let a = from-check after .args in
     run-refused (a .file .now) (a .cells .now) (a .schedule .now) (refusal 12 0) (c .refused2 .result) (λ e. omega arith)
     (plain-passed-on (a .file .now) (a .cells .now) (a .schedule .now) (refusal 12 0) (λ e. omega arith)
-    (cells-refused (c .before .before .before .before .before .check .ensures) (a .cells .now) (c .before .before .before .if1 .left) (λ e. c .before .if2 .taken (e ∙ sym (c .before .before .offset .ensures)))))
+    (cells-refused (after .check .ensures) (a .cells .now) (passed .if1 .left) (λ e. c .before .if2 .taken (e ∙ sym (c .before .before .offset .ensures)))))
     (c .refused2 .ensures)
 
 returns-3 : tie.Need-returns-3
 returns-3 c =
-    let a = c .before .before .before .before .before .before .before .before .before .before .args in
+    let enough = c .before .before in
+    let passed = accepted enough in
+    let after = checked passed in
+    let a = from-check after .args in
     run-refused (a .file .now) (a .cells .now) (a .schedule .now) (refusal 13 0) (c .refused3 .result) (λ e. omega arith)
-    (too-long (c .before .before .before .before .before .before .check .ensures) (c .before .before .before .before .if1 .left) (a .cells .now) (sized (c .before .before)) (a .schedule .now) (c .before .if3 .taken))
+    (too-long (after .check .ensures) (passed .if1 .left) (a .cells .now) (sized enough) (a .schedule .now) (c .before .if3 .taken))
     (c .refused3 .ensures)
 
 returns-4 : tie.Need-returns-4
 returns-4 c =
-    let a = c .before .before .before .before .before .before .before .before .before .before .before .before .before .args in
-    let named = c .before .before .before .schedule-met in
+    let bytes = c .before .before .before in
+    let enough = bytes .before .before in
+    let passed = accepted enough in
+    let after = checked passed in
+    let a = from-check after .args in
+    let named = bytes .schedule-met in
     run-refused (a .file .now) (a .cells .now) (a .schedule .now) (refusal (named .result .number) (named .result .place)) (c .refused4 .result)
     (c .before .if4 .taken)
-    (names-answer (c .before .before .before .before .before .before .before .before .before .check .ensures) (c .before .before .before .before .before .before .before .if1 .left) (a .cells .now) (sized (c .before .before .before .before .before)) (a .schedule .now) (c .before .before .before .before .if3 .left) (named .ensures))
+    (names-answer (after .check .ensures) (passed .if1 .left) (a .cells .now) (sized enough) (a .schedule .now) (bytes .before .if3 .left) (named .ensures))
     (c .refused4 .ensures)
 
 walk-requires : tie.Need-walk-requires
 walk-requires c κs =
-    let a = c .before .before .before .before .before .before .before .before .before .before .before .before .before .args in
-    let promised = c .before .before .before .before .before .before .before .before .before .check .ensures in
-    let none = c .before .before .before .before .before .before .before .if1 .left in
-    let short = c .before .before .before .before .if3 .left in (
-      (ready promised none (length (a .cells .now)) (sized (c .before .before .before .before .before)), within promised none .workers-fit, short),
-      names promised none (a .cells .now) (sized (c .before .before .before .before .before)) (a .schedule .now) short (c .before .before .before .schedule-met .ensures) (c .before .if4 .left),
+    let bytes = c .before .before .before in
+    let enough = bytes .before .before in
+    let passed = accepted enough in
+    let a = from-check (checked passed) .args in
+    let promised = checked passed .check .ensures in
+    let none = passed .if1 .left in
+    let short = bytes .before .if3 .left in (
+      (ready promised none (length (a .cells .now)) (sized enough), within promised none .workers-fit, short),
+      names promised none (a .cells .now) (sized enough) (a .schedule .now) short (bytes .schedule-met .ensures) (c .before .if4 .left),
     )
 
 returns-5 : tie.Need-returns-5
 returns-5 c =
-    let a = c .before .before .before .before .before .before .before .before .before .before .before .before .before .before .before .before .args in
-    run-done (c .before .before .before .before .before .before .before .before .before .before .before .before .check .ensures) (c .before .before .before .before .before .before .before .before .before .before .if1 .left) (a .cells .now) (sized (c .before .before .before .before .before .before .before .before)) (a .schedule .now) (c .before .before .before .before .before .before .before .if3 .left)
-    (c .before .before .before .before .before .before .schedule-met .ensures) (c .before .before .before .before .if4 .left) (c .before .before .walk .result) _ (c .before .before .walk .ensures)
+    let walked = c .before .before in
+    let known = walked .before .before in
+    let bytes = known .before .before in
+    let enough = bytes .before .before in
+    let passed = accepted enough in
+    let after = checked passed in
+    let a = from-check after .args in
+    run-done (after .check .ensures) (passed .if1 .left) (a .cells .now) (sized enough) (a .schedule .now) (bytes .before .if3 .left)
+    (bytes .schedule-met .ensures) (known .if4 .left) (walked .walk .result) _ (walked .walk .ensures)
 
 pub run-spec : {M : Type 1} → statement M
 run-spec =

@@ -32,23 +32,32 @@ abbrev μ-loop : tie.MeasureT-loop
 loop-holds : tie.Need-loop-holds Inv-loop μ-loop
 loop-holds c = begun _ 0 _
 
+-- where the function starts, as seen from the head of the loop; and that head, once a byte is read
+abbrev from-loop : tie.At-loop Inv-loop μ-loop → tie.Start Inv-loop μ-loop
+from-loop c = c .before .before
+
+abbrev head-of : tie.After-wide Inv-loop μ-loop → tie.At-loop Inv-loop μ-loop
+head-of c = c .before .before .before .before .before
+
 -- the byte that is read is the one at the index
 byte-is : (c : tie.After-wide Inv-loop μ-loop)
-    → c .wide .result ≡ getD (c .before .before .before .before .before .before .before .args .schedule .now) (c .before .before .before .before .before .loop .i) 0
+    → c .wide .result ≡ getD (from-loop (head-of c) .args .schedule .now) (head-of c .loop .i) 0
 byte-is c =
-    let schedule = c .before .before .before .before .before .before .before .args .schedule .now in
+    let schedule = from-loop (head-of c) .args .schedule .now in
     c .wide .ensures .0 ∙ ap (λ (k : ℕ). getD schedule k 0) (c .before .before .offset2 .ensures)
 
 returns : tie.Need-returns Inv-loop μ-loop
 returns c =
-    let a = c .before .before .before .before .before .before .before .before .args in
-    let loop = c .before .before .before .before .before .before .loop in
+    let head = head-of (c .before) in
+    let a = from-loop head .args in
+    let loop = head .loop in
     refused (loop .inv) (search needs) (no-worker (a .schedule .now) (a .workers) (loop .i) (omega (arith, byte-is (c .before)))) (λ e. omega arith)
 
 loop-again : tie.Need-loop-again Inv-loop μ-loop
 loop-again c =
-    let a = c .before .before .before .before .before .before .before .before .args in
-    let loop = c .before .before .before .before .before .before .loop in
+    let head = head-of (c .before) in
+    let a = from-loop head .args in
+    let loop = head .loop in
     passed (loop .inv) (search needs) (some-worker (a .schedule .now) (a .workers) (loop .i) (omega (arith, byte-is (c .before)))) refl
 
 returns-2 : tie.Need-returns-2 Inv-loop μ-loop

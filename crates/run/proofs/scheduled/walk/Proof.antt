@@ -24,6 +24,17 @@ after c =
     let left = c .step .last .1 .1 .1 in
     arrays (left .0) (left .1 .0) (left .1 .1 .0) (left .1 .1 .1 .0)
 
+-- where the function starts, as seen from the head of the loop; and that head, once a worker is named
+abbrev from-loop : tie.At-loop Inv-loop μ-loop → tie.Start Inv-loop μ-loop
+from-loop c = c .before .before .before .before
+
+abbrev head-of : tie.After-index Inv-loop μ-loop → tie.At-loop Inv-loop μ-loop
+head-of c = c .before .before .before
+
+-- where the worker is named, as seen before its step
+abbrev named-at : tie.After-places Inv-loop μ-loop → tie.After-index Inv-loop μ-loop
+named-at c = c .before .before .before .before
+
 loop-holds : tie.Need-loop-holds Inv-loop μ-loop
 loop-holds c =
     let a = c .before .before .before .args in
@@ -31,21 +42,25 @@ loop-holds c =
 
 step-requires : tie.Need-step-requires Inv-loop μ-loop
 step-requires c κs =
-    let start = c .before .before .before .before .before .before .before .before .before .before .before in
+    let named = named-at c in
+    let head = head-of named in
+    let start = from-loop head in
     let a = start .args in
-    step-ready (a .file .now) (a .tasks) (c .before .before .before .before .before .before .before .loop .inv .3) (c .before .before .before .before .before .before .loop-test .taken) (a .workers) _ (start .pre .0 .1) (start .pre .0 .2) (start .pre .1)
-    (c .before .before .before .before .index .ensures .0)
+    step-ready (a .file .now) (a .tasks) (head .loop .inv .3) (named .before .before .loop-test .taken) (a .workers) _ (start .pre .0 .1) (start .pre .0 .2) (start .pre .1)
+    (named .index .ensures .0)
 
 loop-again : tie.Need-loop-again Inv-loop μ-loop
 loop-again c =
-    let a = c .before .before .before .before .before .before .before .before .before .before .before .before .before .before .before .args in
-    let walking = c .before .before .before .before .before .before .before .before .before .before .before .loop .inv .3 in
-    let more = c .before .before .before .before .before .before .before .before .before .before .loop-test .taken in
-    let v = c .before .before .before .before .before .before .before .before .index .result in
-    let named = c .before .before .before .before .before .before .before .before .index .ensures .0 in
     let step = c .before .before .before in
-    let held = c .before .before .before .before .before .before .before .before .before .before .before .loop .i + 1 - c .match .advanced in
-    let fits = c .before .before .before .before .before .before .before .before .before .before .before .loop .inv .2 in
+    let at = named-at (step .before) in
+    let head = head-of at in
+    let a = from-loop head .args in
+    let walking = head .loop .inv .3 in
+    let more = at .before .before .loop-test .taken in
+    let v = at .index .result in
+    let named = at .index .ensures .0 in
+    let held = head .loop .i + 1 - c .match .advanced in
+    let fits = head .loop .inv .2 in
     ⊎-elim
     (λ w. (search needs, search needs, omega (arith, fits, w .2), advance-walked (a .file .now) (a .tasks) walking more v named (after step) (step .step .result) (c .match .advanced) held (w .1 .given .1) (step .step .ensures) (w .2) (omega (arith, fits, w .2))))
     (λ w. (search needs, search needs, omega (arith, fits, w .1), hold-walked (a .file .now) (a .tasks) walking more v named (after step) (step .step .result) (c .match .advanced) held (w .0 .keys2) (step .step .ensures) (w .1) (omega (arith, fits, w .1))))
@@ -58,12 +73,14 @@ done-tasks-requires c κs =
 
 returns : tie.Need-returns Inv-loop μ-loop
 returns c =
-    let a = c .before .before .before .before .before .before .before .before .before .args in
-    let loop = c .before .before .before .before .before .loop in
-    let over : loop .i ≡ length (a .schedule .now) = omega (arith, loop .inv .0, c .before .before .before .before .loop-test .left) in
+    let counted = c .before .before in
+    let end = counted .before .before in
+    let a = from-loop (end .before) .args in
+    let loop = end .before .loop in
+    let over : loop .i ≡ length (a .schedule .now) = omega (arith, loop .inv .0, end .loop-test .left) in
     walk-ended (a .file .now) (a .tasks)
     (subst (λ (i : ℕ). Walking (a .file .now) (a .tasks) (a .cells .now) (a .schedule .now) i (loop .advanced) (i - loop .advanced) (arrays (loop .cells) (loop .shared) (loop .private) (loop .places))) over (loop .inv .3))
-    (omega arith) (a .workers) (c .before .before .done-tasks .result) (c .all-past .result) (c .before .before .done-tasks .ensures) (c .all-past .ensures)
+    (omega arith) (a .workers) (counted .done-tasks .result) (c .all-past .result) (counted .done-tasks .ensures) (c .all-past .ensures)
 
 pub walk-spec : {M : Type 1} → statement M
 walk-spec =
