@@ -20,11 +20,16 @@ Inv-loop row count steps₀ j₀ steps j =
 abbrev μ-loop : tie.MeasureT-loop
 μ-loop row count steps₀ j₀ steps j = count - j
 
+-- where the function starts, as seen from the head of the loop
+abbrev from-loop : tie.At-loop Inv-loop μ-loop → tie.Start Inv-loop μ-loop
+from-loop c = c .before .before .before .before
+
 loop-again : tie.Need-loop-again Inv-loop μ-loop
 unfolding taskOf
 loop-again c =
-    let row = c .before .before .before .before .before .before .before .args .row .now in
-    let steps = c .before .before .before .loop .steps in
+    let head = c .before .before .before in
+    let row = from-loop head .args .row .now in
+    let steps = head .loop .steps in
     let write = c .before .is-write .result in
     let more : (c .if1 .steps ≡ steps + cond write 4 2) × (c .if1 .steps ≤ steps + 4) =
     ⊎-elim (λ w. (w .1 ∙ ap (λ (b : Bool). steps + cond b 4 2) (sym (w .0 .taken)), omega arith))
@@ -32,14 +37,14 @@ loop-again c =
       search needs,
       search needs,
       omega (arith, more .1),
-      access-next (getD row 1 0) (accessAt row) (c .before .before .before .loop .j) steps (c .if1 .steps) _ write (search needs) (c .before .is-write .ensures) (more .0)
-          (c .before .before .before .loop .inv .3),
+      access-next (getD row 1 0) (accessAt row) (head .loop .j) steps (c .if1 .steps) _ write (search needs) (c .before .is-write .ensures) (more .0)
+          (head .loop .inv .3),
     )
 
 returns : tie.Need-returns Inv-loop μ-loop
 unfolding taskOf
 returns c =
-    let row = c .before .before .before .before .before .args .row .now in
+    let row = from-loop (c .before) .args .row .now in
     (access-end (getD row 1 0) (accessAt row) (c .before .loop .j) (c .before .loop .steps) _ (search needs) (c .before .loop .inv .3), search needs)
 
 pub access-steps-spec : {M : Type 1} → statement M

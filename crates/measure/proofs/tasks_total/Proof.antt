@@ -19,25 +19,40 @@ Inv-loop file tasks workers total₀ done₀ total done =
 abbrev μ-loop : tie.MeasureT-loop
 μ-loop file tasks workers total₀ done₀ total done = tasks - done
 
+-- where the function starts, as seen from the head of the loop; and that head, once the row's place is known
+abbrev from-loop : tie.At-loop Inv-loop μ-loop → tie.Start Inv-loop μ-loop
+from-loop c = c .before .before
+
+abbrev head-of : tie.After-start Inv-loop μ-loop → tie.At-loop Inv-loop μ-loop
+head-of c = c .before .before
+
 access-steps-requires : tie.Need-access-steps-requires Inv-loop μ-loop
 access-steps-requires c κs =
-    let a = c .before .before .before .before .before .args in
-    let fits = row-fits (a .file .now) (a .tasks) (c .before .before .before .loop .done) _ _ (c .before .before .before .before .before .pre .0) (c .before .before .loop-test .taken) (c .before .start .ensures) in
+    let placed = c .before in
+    let head = head-of placed in
+    let start = from-loop head in
+    let a = start .args in
+    let fits = row-fits (a .file .now) (a .tasks) (head .loop .done) _ _ (start .pre .0) (placed .before .loop-test .taken) (placed .start .ensures) in
     (fits .size, fits .few-accesses)
 
 loop-again : tie.Need-loop-again Inv-loop μ-loop
 loop-again c =
-    let a = c .before .before .before .before .before .before .before .before .args in
-    let done = c .before .before .before .before .before .before .loop .done in
-    let from = c .before .before .before .before .start in
-    let fits = row-fits (a .file .now) (a .tasks) done _ _ (c .before .before .before .before .before .before .before .before .pre .0) (c .before .before .before .before .before .loop-test .taken) (from .ensures) in
-    let accesses = c .before .before .access-steps .ensures in (
+    let counted = c .before .before in
+    let placed = counted .before .before in
+    let head = head-of placed in
+    let start = from-loop head in
+    let a = start .args in
+    let l = head .loop in
+    let more = placed .before .loop-test .taken in
+    let from = placed .start in
+    let fits = row-fits (a .file .now) (a .tasks) (l .done) _ _ (start .pre .0) more (from .ensures) in
+    let accesses = counted .access-steps .ensures in (
       search needs,
       omega (arith, accesses .1, c .wide .ensures .0, fits .few-operations),
-      task-next (a .workers) (a .tasks) (λ i. taskOf (rowAt (a .file .now) (i + 1))) done (c .before .before .before .before .before .before .loop .total) _ _ (c .before .before .before .before .before .loop-test .taken)
-          (ap (λ (n : ℕ). c .before .before .before .before .before .before .loop .total + n)
-          (row-counts _ (rowAt (a .file .now) (done + 1)) _ _ _ (row-there (a .file .now) (from .result) (done + 1) (from .ensures)) (accesses .0) (c .wide .ensures .0)))
-          (c .before .before .before .before .before .before .loop .inv .2),
+      task-next (a .workers) (a .tasks) (λ i. taskOf (rowAt (a .file .now) (i + 1))) (l .done) (l .total) _ _ more
+          (ap (λ (n : ℕ). l .total + n)
+          (row-counts _ (rowAt (a .file .now) (l .done + 1)) _ _ _ (row-there (a .file .now) (from .result) (l .done + 1) (from .ensures)) (accesses .0) (c .wide .ensures .0)))
+          (l .inv .2),
     )
 
 returns : tie.Need-returns Inv-loop μ-loop
