@@ -8,47 +8,48 @@ use Rattle.row_reader.proofs.Fetches.{refused-is, row-fits, row-is, end
 use Rattle.row_reader.proofs.fetch.Statement.{statement}
 use Rattle.row_reader.proofs.fetch.Tie as tie
 
+-- where the function starts, as seen after the check; and the check, as seen once it is passed
+abbrev from-check : tie.After-check → tie.Start
+from-check c = c .before .before
+
+abbrev checked : tie.Else1 → tie.After-check
+checked c = c .before .before
+
 returns : tie.Need-returns
 returns c =
-    refused-is (c .before .before .check .ensures) (c .before .before .before .before .args .task) (c .if1 .taken)
+    let met = c .before .before in
+    refused-is (met .check .ensures) (from-check met .args .task) (c .if1 .taken)
 
 start-requires : tie.Need-start-requires
 start-requires c κs =
-    omega (
-      arith,
-      row-fits (c .before .before .before .before .check .ensures)
-          (c .before .before .before .before .before .before .args .task)
-          (c .before .before .if1 .left)
-          (c .if2 .taken),
-    )
+    let accepted = c .before .before in
+    let met = checked accepted in
+    omega (arith, row-fits (met .check .ensures) (from-check met .args .task) (accepted .if1 .left) (c .if2 .taken))
 
 part-copy-end : tie.Need-part-copy-end
 part-copy-end c =
-    omega (
-      arith,
-      row-fits (c .before .before .before .before .before .check .ensures)
-          (c .before .before .before .before .before .before .before .args .task)
-          (c .before .before .before .if1 .left)
-          (c .before .if2 .taken),
-    )
+    let accepted = c .before .before .before in
+    let met = checked accepted in
+    omega (arith, row-fits (met .check .ensures) (from-check met .args .task) (accepted .if1 .left) (c .before .if2 .taken))
 
 returns-2 : tie.Need-returns-2
 returns-2 c =
     let begun = c .before .before .before .before in
-    let a = begun .before .before .before .before .before .before .before .args in
-    let met = begun .before .before .before .before .before .check .ensures in
-    let none = begun .before .before .before .if1 .left in
+    let accepted = begun .before .before .before in
+    let met = checked accepted in
+    let a = from-check met .args in
     let row = c .before .copy .last .1 .0 in
-    let fits = row-fits met (a .task) none (begun .before .if2 .taken) in
-    row-is met (a .task) none row (begun .before .if2 .taken)
+    let fits = row-fits (met .check .ensures) (a .task) (accepted .if1 .left) (begun .before .if2 .taken) in
+    row-is (met .check .ensures) (a .task) (accepted .if1 .left) row (begun .before .if2 .taken)
     (copied 48 (begun .start .result) 0 (rowStart (a .task)) (a .file .now) noRow row
     (omega (arith, fits .2, begun .start .ensures))
     (c .before .copy .ensures .1) (begun .start .ensures))
 
 returns-3 : tie.Need-returns-3
 returns-3 c =
-    end-is (c .before .before .before .before .check .ensures) (c .before .before .before .before .before .before .args .task)
-    (c .before .before .if1 .left) (c .if2 .left)
+    let accepted = c .before .before in
+    let met = checked accepted in
+    end-is (met .check .ensures) (from-check met .args .task) (accepted .if1 .left) (c .if2 .left)
 
 pub fetch-spec : {M : Type 1} → statement M
 fetch-spec =
