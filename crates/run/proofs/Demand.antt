@@ -11,15 +11,16 @@ use lib.Dec.{eqb}
 use Rattle.layout.specs.Flow.{mostSchedule}
 use Rattle.layout.specs.File.{flowOf}
 use Rattle.layout.proofs.Lists.{all-fails}
-use Rattle.roundtrip.proofs.Kept.{both-zero}
+use Rattle.roundtrip.proofs.NoRefusal.{both-zero}
 use Rattle.steps.specs.Operations.{effect}
 use Rattle.steps.specs.Plain.{afterTasks}
 use Rattle.steps.specs.Step.{Setting, Outcome, advanced, step}
 use Rattle.steps.specs.Run.{Run, counted, runFrom, run, finished}
 use Rattle.steps.specs.Answers.{plainAnswer, plainCells, runAnswer, runTold, runCells}
 use Rattle.steps.specs.Demand.{Given, Demand3}
+use Rattle.steps.proofs.Accepted.{reads-only-a}
 use Rattle.steps.proofs.Given.{accepted-given, given-more, given-accepted}
-use Rattle.steps.proofs.Theorems.{holds, at-any-point, history-leaves, never-early}
+use Rattle.steps.proofs.Theorems.{holds, at-any-point, history-leaves, never-early-at}
 use Rattle.run.specs.declared.PlainAnswer.{PlainAnswer}
 use Rattle.run.specs.declared.RunAnswer.{RunAnswer}
 use Rattle.run.specs.Promises.{PlainPromise, RunPromise}
@@ -140,7 +141,7 @@ run-demand file cells schedule r after promised taken =
       cells-are = stepped-cells file cells schedule r after promised taken;
       cells-made = stepped-cells file cells schedule r after promised taken ∙ history-leaves file cells schedule here;
       declared = three .declared;
-      touched = λ n. at-any-point file cells schedule here n .touched;
+      touched = λ n. at-any-point file cells schedule here n .touched reads-only-a;
       in-order = three .in-order;
       progress =
           λ e room.
@@ -165,5 +166,5 @@ run-demand file cells schedule r after promised taken =
                 ∙ three .values (is-finished file cells schedule r after promised taken e)
                 ∙ sym (plain-leaves file cells schedule r after promised taken p p-after plain),
           );
-      never-early = never-early file cells schedule here;
+      never-early = never-early-at file cells schedule here;
     }

@@ -26,7 +26,7 @@ pub record RunDemand (file cells schedule : List ℕ) (r : RunAnswer) (after : L
   -- the count and the cells are those of the steps that the theorems speak of
   pub advanced-are : r .advanced ≡ run (flowIn file) cells schedule .advanced
   pub cells-are : after ≡ run (flowIn file) cells schedule .machine .cells
-  -- a. and b. of the operations that made them, and no others did
+  -- a. and b., of the operations that made the cells what they are; no others did
   pub cells-made : after ≡ afterHistory (flowIn file) (history (flowIn file) cells schedule) cells
   pub declared : OnlyDeclared (flowIn file) (history (flowIn file) cells schedule)
   pub touched : (n : ℕ) → OnlyTouched (flowIn file) (run (flowIn file) cells (take n schedule) .machine)
@@ -42,8 +42,8 @@ pub record RunDemand (file cells schedule : List ℕ) (r : RunAnswer) (after : L
   -- e. where it answers that it has finished, the plain run is no refusal and leaves the same cells
   pub values : r .finished ≡ 1 → (p : PlainAnswer) (p-after : List ℕ) → PlainPromise file cells p p-after
       → (p .number ≡ 0) × (after ≡ p-after)
-  -- the auditor's question: swap stands before drive in the list, swap declares a cell written, and drive names it
-  pub never-early : (swap drive cell : ℕ) → 1 ≤ swap → swap < drive → drive ≤ length (flowOf file .tasks)
+  -- the auditor's question, at any point of the schedule: swap stands before drive in the list, swap declares a cell written, and drive names it
+  pub never-early : (n swap drive cell : ℕ) → 1 ≤ swap → swap < drive → drive ≤ length (flowOf file .tasks)
       → declaresWritten (numbered (flowIn file) swap) cell ≡ true
       → namesCell (numbered (flowIn file) drive) cell ≡ true
-      → NeverEarly (flowIn file) cells schedule swap drive cell
+      → NeverEarly (flowIn file) cells (take n schedule) swap drive cell

@@ -12,7 +12,7 @@ use Rattle.roundtrip.specs.Sound.{Sound}
 use Rattle.roundtrip.proofs.Theorems.{accepted-sound}
 use Rattle.steps.specs.Operations.{becomes, effect}
 use Rattle.steps.specs.Run.{settingOf}
-use Rattle.steps.specs.Conflict.{noTask, taskAt, namesCell, AllKeep, ReadsOnly}
+use Rattle.steps.specs.Conflict.{noTask, taskAt, namesCell, AllKeep, ReadsOnlyA, ReadsOnlyB}
 use Rattle.steps.specs.Demand.{Given}
 use Rattle.steps.proofs.Demand3.{Asked}
 use Rattle.steps.proofs.Modes.{keeps-writes, keeps-reads-b, keeps-at}
@@ -54,21 +54,22 @@ keeps-of flow sound =
           };
     }
 
--- 01's operations read b but for code 1, and a for codes 3, 4 and 6
-pub reads-only : ReadsOnly effect
+-- 01's operations read b but for code 1
+pub reads-only : ReadsOnlyB effect
 unfolding becomes
-reads-only =
-    record {
-      but-a = λ o a a′ b h. without-a o a b h ∙ sym (without-a o a′ b h);
-      but-b = λ o a b b′ h. sets o a b (not-false (eqb (o .code) 1) h) ∙ sym (sets o a b′ (not-false (eqb (o .code) 1) h));
-    }
+reads-only = record { but-b = λ o a b b′ h. sets o a b (not-false (eqb (o .code) 1) h) ∙ sym (sets o a b′ (not-false (eqb (o .code) 1) h)) }
   where
     sets : (o : Operation) (a b : ℕ) → eqb (o .code) 1 ≡ true → effect o a b ≡ o .k
     sets o a b e = rw e
 
-    -- none of the three codes that read a is the operation's
-    without-a : (o : Operation) (a b : ℕ) → readsA (o .code) ≡ false → effect o a b ≡ effect o 0 b
-    without-a o a b h =
+-- and a for codes 3, 4 and 6
+pub reads-only-a : ReadsOnlyA effect
+unfolding becomes
+reads-only-a = record { but-a = λ o a a′ b h. without o a b h ∙ sym (without o a′ b h) }
+  where
+    -- none of the three codes is the operation's
+    without : (o : Operation) (a b : ℕ) → readsA (o .code) ≡ false → effect o a b ≡ effect o 0 b
+    without o a b h =
         let first = or-neither (eqb (o .code) 3 || eqb (o .code) 4) (eqb (o .code) 6) h in
         let second = or-neither (eqb (o .code) 3) (eqb (o .code) 4) (first .0) in
         rw (second .0, second .1, first .1)

@@ -13,7 +13,7 @@ use Rattle.layout.specs.Flow.{Operation, Task}
 use Rattle.steps.specs.Machine.{Machine, fresh}
 use Rattle.steps.specs.Operations.{operated}
 use Rattle.steps.specs.Step.{Setting, Try, waitWrite, waitReads, operate, endRead, zeroReads, postWrite, ownSteps, change, Stepped, step}
-use Rattle.steps.specs.Conflict.{taskAt, operationOf, AllKeep, ReadsOnly}
+use Rattle.steps.specs.Conflict.{taskAt, operationOf, AllKeep, ReadsOnlyB}
 use Rattle.steps.proofs.Complete.{operationsAmong, operationsMade, earlier-complete}
 use Rattle.steps.proofs.Invariant.{Kept}
 use Rattle.steps.proofs.OwnMade.{ownMade, made-none, own-there, own-then, own-made-past}
@@ -72,7 +72,7 @@ module _ (s : Setting) (m : Machine) (w : ℕ) where
 
 -- ---- the cells
 
-module _ (s : Setting) (workers : ℕ) (start : List ℕ) (keep : AllKeep workers (length start) (s .tasks)) (reads : ReadsOnly (s .does)) where
+module _ (s : Setting) (workers : ℕ) (start : List ℕ) (keep : AllKeep workers (length start) (s .tasks)) (reads : ReadsOnlyB (s .does)) where
   -- the cells after so many operations of each task
   abbrev pub CellsKept : Machine → Type 0
   CellsKept m = Canonical (s .does) (s .tasks) start (operationsMade (s .tasks) (m .places)) (m .cells)

@@ -1,7 +1,7 @@
 -- A task's operations come after all of its waits and before all of its ends. So a task that may make an operation has the cells that it names,
 -- every earlier task in conflict with it has ended its access, and so has made all of its operations.
 use mathlib.Core.Path.{_≡_, sym, ap₂, _∙_}
-use mathlib.Core.Bool.{Bool, true, false, _||_}
+use mathlib.Core.Bool.{Bool, true, _||_, false≢true}
 use mathlib.Core.List.{List}
 use Prim.Native.Nat.{ℕ, _-_, _<_, _≤_, min}
 use native.Mathlib.Omega.{arith}
@@ -32,11 +32,11 @@ operationsMade tasks places j = operationsAmong (taskAt tasks j) (ownMade tasks 
 -- ---- conflict, by the kinds
 
 in-conflict : (one other : Kind) → naming one ≡ true → naming other ≡ true → (writing one || writing other) ≡ true → InConflict one other
-in-conflict none other p q r = absurd (mathlib.Core.Bool.false≢true p)
-in-conflict read none p q r = absurd (mathlib.Core.Bool.false≢true q)
-in-conflict read read p q r = absurd (mathlib.Core.Bool.false≢true r)
+in-conflict none other p q r = absurd (false≢true p)
+in-conflict read none p q r = absurd (false≢true q)
+in-conflict read read p q r = absurd (false≢true r)
 in-conflict read write p q r = tt
-in-conflict write none p q r = absurd (mathlib.Core.Bool.false≢true q)
+in-conflict write none p q r = absurd (false≢true q)
 in-conflict write read p q r = tt
 in-conflict write write p q r = tt
 

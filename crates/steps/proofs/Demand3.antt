@@ -14,7 +14,7 @@ use Rattle.steps.specs.Machine.{Machine}
 use Rattle.steps.specs.Step.{Setting, ownSteps}
 use Rattle.steps.specs.Run.{Run, run, Names, finished}
 use Rattle.steps.specs.History.{Entry, made, madeBy, afterHistory}
-use Rattle.steps.specs.Conflict.{taskAt, AllKeep, TellsApart, ReadsOnly}
+use Rattle.steps.specs.Conflict.{taskAt, AllKeep, TellsApart, ReadsOnlyA, ReadsOnlyB}
 use Rattle.steps.specs.Demand.{entry, Declared, OnlyTouched, history, Demand3}
 use Rattle.steps.proofs.Advance.{progress}
 use Rattle.steps.proofs.Along.{freshRun, counted-machine, along-history, along-machine}
@@ -34,7 +34,7 @@ pub record Asked (s : Setting) (workers : ℕ) (start schedule : List ℕ) : Typ
   pub keep : AllKeep workers (length start) (s .tasks)
   pub modes : (i : ℕ) → i < length (s .tasks) → modesSound (taskAt (s .tasks) i) ≡ true
   pub apart : TellsApart (s .tasks) (s .number)
-  pub reads : ReadsOnly (s .does)
+  pub reads : ReadsOnlyB (s .does)
   pub names : Names workers schedule
 
 module _ (s : Setting) (workers : ℕ) (start schedule : List ℕ) (asked : Asked s workers start schedule) where
@@ -98,11 +98,11 @@ module _ (s : Setting) (workers : ℕ) (start schedule : List ℕ) (asked : Aske
       (ap (λ (added : List Entry). entry (before ++ added) (length before)) makes ∙ getD-append-seam before e [] (made 0 0))
       (after .declared (length before) last)
 
-  only-touched : OnlyTouched s (run s start schedule .machine)
-  only-touched =
+  only-touched : ReadsOnlyA (s .does) → OnlyTouched s (run s start schedule .machine)
+  only-touched reads-a =
       record {
         making = λ w e makes.
-            touches s (run s start schedule .machine) w (tells .kept .standing .each-worker w) (asked .reads) e makes (declared-next w e makes);
+            touches s (run s start schedule .machine) w (tells .kept .standing .each-worker w) reads-a (asked .reads) e makes (declared-next w e makes);
         making-none = λ w. none-touched s (run s start schedule .machine) w (tells .kept .standing .each-worker w);
       }
 

@@ -1,7 +1,7 @@
 -- What demand 3 is given, and what the stepped run accepts: the run asks besides only that the schedule is no longer than the longest. Bytes that
 -- name workers do so in any part of a schedule, and with one worker's byte more.
-use mathlib.Core.Path.{_≡_, refl, sym, ap, subst, _∙_}
-use mathlib.Core.Bool.{Bool, true, false}
+use mathlib.Core.Path.{_≡_, sym, ap, subst, _∙_}
+use mathlib.Core.Bool.{Bool, true}
 use mathlib.Core.List.{List, [], _∷_, _++_}
 use Prim.Native.Nat.{ℕ, _<_}
 use native.Mathlib.Nat.{zero-add}
@@ -12,7 +12,7 @@ use lib.Seq.{getD-append-seam}
 use lib.Dec.{ltb, lit<}
 use Rattle.layout.specs.Refusal.{Answer, unless}
 use Rattle.layout.specs.File.{fileAnswer, flowOf}
-use Rattle.roundtrip.proofs.Kept.{both-zero, rule-then, second-given, rule-passed, none-at, success-at}
+use Rattle.roundtrip.proofs.NoRefusal.{kept, both-zero, rule-then, second-given, rule-passed, none-at, success-at}
 use Rattle.steps.specs.Run.{Names}
 use Rattle.steps.specs.Answers.{plainAnswer, runAnswer, startSound, scheduleSound, byteNumber}
 use Rattle.steps.specs.Demand.{Given}
@@ -53,11 +53,6 @@ given-more file cells schedule w below given =
 
 -- ---- what the run accepts
 
--- a kept rule under its number
-unless-kept : (rule : Bool) (number : ℕ) → 0 < number → unless rule number ≡ 0 → rule ≡ true
-unless-kept true number h e = refl
-unless-kept false number h e = absurd (omega arith)
-
 module _ (file cells schedule : List ℕ) where
   pub accepted-given : runAnswer file cells schedule .number ≡ 0 → Given file cells schedule
   unfolding runAnswer plainAnswer
@@ -67,11 +62,12 @@ module _ (file cells schedule : List ℕ) where
       let bytes = rule-then (scheduleSound schedule) 13 _ (lit< tt) (start .1) .1 in
       record {
         accepted = whole .0;
-        start = eqb-true _ _ (unless-kept (startSound (flowOf file) cells) 12 (lit< tt) (whole .1));
+        start = eqb-true _ _ (kept (startSound (flowOf file) cells) 12 0 (lit< tt) (whole .1) .0);
         names = λ i l.
             ltb-true _ _
-            (unless-kept (ltb (getD schedule i 0) (flowOf file .workers)) 14 (lit< tt)
-            (ap (byteNumber (flowOf file) schedule) (sym (zero-add i)) ∙ none-at (byteNumber (flowOf file) schedule) 0 (length schedule) bytes i l));
+            (kept (ltb (getD schedule i 0) (flowOf file .workers)) 14 0 (lit< tt)
+            (ap (byteNumber (flowOf file) schedule) (sym (zero-add i)) ∙ none-at (byteNumber (flowOf file) schedule) 0 (length schedule) bytes i l)
+            .0);
       }
 
   pub given-accepted : Given file cells schedule → scheduleSound schedule ≡ true → runAnswer file cells schedule .number ≡ 0

@@ -13,7 +13,6 @@ pub mod Invariant
 pub mod Kind
 pub mod Leaves
 pub mod Modes
-pub mod Named
 pub mod Naming
 pub mod OnCell
 pub mod OwnMade

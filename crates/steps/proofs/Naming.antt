@@ -1,10 +1,11 @@
 -- Accesses that name no cell twice name a cell at one access at most, and the mode under which they name it is that access's. So a
--- task's kind at a cell is the kind of that access, and a task that doesn't name the cell has none.
-use mathlib.Core.Path.{_≡_, refl, sym, ap, _∙_}
+-- task's kind at a cell is the kind of that access, and a task that doesn't name the cell has none. A cell that is declared written is
+-- named, and one that is named by accesses within range is within range.
+use mathlib.Core.Path.{_≡_, refl}
 use mathlib.Core.Bool.{Bool, true, false, not, cond, _||_, false≢true}
 use mathlib.Core.List.{List, [], _∷_}
-use Prim.Native.Nat.{ℕ, _≤_}
-use borrow.Author.Tests.{eqb-true, leb-true, not-true}
+use Prim.Native.Nat.{ℕ, _≤_, _<_}
+use borrow.Author.Tests.{eqb-true, leb-true, ltb-true, not-true}
 use lib.Dec.{eqb, leb, ltb}
 use Rattle.layout.specs.Flow.{Access, Task, upTo}
 use Rattle.layout.specs.Lists.{all, any}
@@ -86,25 +87,24 @@ module _ (task : Task) (c : ℕ) where
       go false true = refl
       go false false = refl
 
-  pub unnamed-none : namesCell task c ≡ false → kindOf task c ≡ none
-  unfolding kindOf
-  unnamed-none unnamed = rw (unnamed-mode (task .accesses) c unnamed, unnamed)
+-- ---- a cell that accesses within range name is within range
 
-  pub named-some : namesCell task c ≡ true → kindOf task c ≡ none → ⊥
-  named-some named e = false≢true (ap naming (sym e) ∙ sym kind-names ∙ named)
+pub named-below : (cells : ℕ) (accesses : List Access) (cell : ℕ) → all (accessInRange cells) accesses ≡ true
+    → names accesses cell ≡ true
+    → cell < cells
+unfolding names any all
+named-below cells [] cell t h = absurd (false≢true h)
+named-below cells (x ∷ accesses) cell t h =
+    go (eqb (x .cell) cell) refl (named-below cells accesses cell (and-right (accessInRange cells x) _ t)) h
+  where
+    x-below : x .cell < cells
+    x-below = ltb-true (x .cell) cells (and-left _ (upTo 3 (x .mode)) (and-left (accessInRange cells x) _ t))
 
-  pub written-write : declaresWritten task c ≡ true → kindOf task c ≡ write
-  unfolding kindOf
-  written-write written = rw written
-
-  pub write-written : kindOf task c ≡ write → declaresWritten task c ≡ true
-  write-written e = kind-writes ∙ ap writing e
-
-  pub read-named : kindOf task c ≡ read → namesCell task c ≡ true
-  read-named e = kind-names ∙ ap naming e
-
-  pub read-unwritten : kindOf task c ≡ read → declaresWritten task c ≡ false
-  read-unwritten e = kind-writes ∙ ap writing e
+    go : (first : Bool) → eqb (x .cell) cell ≡ first → (names accesses cell ≡ true → cell < cells)
+        → (first || names accesses cell) ≡ true
+        → cell < cells
+    go true e later h = rw (eqb-true (x .cell) cell e) at x-below
+    go false e later h = later h
 
 -- ---- where accesses name a cell
 

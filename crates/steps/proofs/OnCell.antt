@@ -14,7 +14,7 @@ use Rattle.layout.specs.Row.{namedOnce}
 use Rattle.steps.specs.Step.{Try, waitWrite, waitReads, operate, endRead, zeroReads, postWrite}
 use Rattle.steps.specs.Step.{writes, waits, ends, ofEach, ownSteps}
 use Rattle.steps.proofs.Kind.{Kind, none, read, write, full}
-use Rattle.steps.proofs.Passing.{passing, count, passing-append, count-more, count-most}
+use Rattle.steps.proofs.Passing.{passing, count, passing-append, count-more}
 use Rattle.steps.proofs.Passing.{count-failing, count-passing, passing-at, count-below}
 use Rattle.steps.proofs.Naming.{kindOf, kindBy, Where, nowhere, at-first, at-later, where-named}
 
@@ -158,10 +158,6 @@ module _ (task : Task) (c : ℕ) where
     pub stage-end : stage task c (length (ownSteps task)) ≡ full (kindOf task c)
     unfolding stage
     stage-end = rw take-length count-on
-
-    pub stage-most : (k : ℕ) → stage task c k ≤ full (kindOf task c)
-    unfolding stage
-    stage-most k = rw (← count-on) (count-most (on c) (ownSteps task) k)
 
     module _ (k : ℕ) {try : Try} {later : List Try} (next : drop k (ownSteps task) ≡ try ∷ later) (here : on c try ≡ true) where
       pub next-below : stage task c k < full (kindOf task c)

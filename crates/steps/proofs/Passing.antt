@@ -39,11 +39,6 @@ module _ {A : Type 0} where
       let cut = rw whole at (take-add j (k - j) xs) in
       rw cut (omega (arith, count-append test (take j xs) (take (k - j) (drop j xs))))
 
-  -- no beginning has more than the whole
-  pub count-most : (test : A → Bool) (xs : List A) (k : ℕ) → count test (take k xs) ≤ count test xs
-  count-most test xs k =
-      omega (arith, count-append test (take k xs) (drop k xs), ap (count test) (take-append-drop k xs))
-
   -- ---- the member after the first k
 
   module _ (test : A → Bool) (xs : List A) (k : ℕ) {x : A} {later : List A} (next : drop k xs ≡ x ∷ later) where

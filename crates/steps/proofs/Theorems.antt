@@ -1,6 +1,6 @@
 -- Demand 3, proved of every accepted flow, every start and every schedule of any length, and the auditor's question. Each statement is defined in specs/:
 -- the five of demand 3 and what is given in specs/Demand.antt, the auditor's in specs/Auditor.antt. What is said of the end of a schedule is said of every
--- point of it, since its first bytes are a schedule too (`at-any-point`). A schedule that the stepped run accepts is one of these (`accepted-given` in
+-- point of it, since its first bytes are a schedule too (`at-any-point`, `never-early-at`). A schedule that the stepped run accepts is one of these (`accepted-given` in
 -- proofs/Given.antt), so all of it holds of what the run accepts (`accepted-holds`): the run asks besides only that the schedule is not too long.
 use mathlib.Core.Path.{_≡_, ap}
 use mathlib.Core.Bool.{Bool, true, _||_}
@@ -15,7 +15,7 @@ use Rattle.steps.specs.History.{afterHistory}
 use Rattle.steps.specs.Conflict.{namesCell, declaresWritten}
 use Rattle.steps.specs.Demand.{Given, history, numbered, OnlyDeclared, OnlyTouched, InOrder, Progress, Total, Values, Demand3}
 use Rattle.steps.specs.Auditor.{NeverEarly}
-use Rattle.steps.proofs.Accepted.{asked}
+use Rattle.steps.proofs.Accepted.{asked, reads-only-a}
 use Rattle.steps.proofs.Demand3.{demand-3, cells-left}
 use Rattle.steps.proofs.Given.{given-first, accepted-given}
 use Rattle.steps.proofs.Naming.{written-named}
@@ -43,7 +43,7 @@ module _ (file cells schedule : List ℕ) (given : Given file cells schedule) wh
   -- and, said of the cells: a step that makes one changes no cell but one that its task declares written, to what follows from the cells that its
   -- task declares readable at that point; a step that makes none changes no cell
   pub only-touched : OnlyTouched flow (run flow cells schedule .machine)
-  only-touched = holds .touched
+  only-touched = holds .touched reads-only-a
 
   -- b. where two tasks name one cell and at least one declares it written, no operation of the later stands in the history before all of the earlier
   pub in-order : InOrder flow (history flow cells schedule)
@@ -81,6 +81,14 @@ module _ (file cells schedule : List ℕ) (given : Given file cells schedule) wh
             });
         reads-as-plain = λ w index e. reads-plain flow workers cells schedule (asked file cells schedule given) w drive index cell e named;
       }
+
+-- at any point of the schedule, too: after its first n bytes
+pub never-early-at : (file cells schedule : List ℕ) → Given file cells schedule
+    → (n swap drive cell : ℕ) → 1 ≤ swap → swap < drive → drive ≤ length (flowOf file .tasks)
+    → declaresWritten (numbered (settingOf (flowOf file)) swap) cell ≡ true
+    → namesCell (numbered (settingOf (flowOf file)) drive) cell ≡ true
+    → NeverEarly (settingOf (flowOf file)) cells (take n schedule) swap drive cell
+never-early-at file cells schedule given n = never-early file cells (take n schedule) (given-first file cells schedule n given)
 
 -- a file, starting cells and a schedule that the stepped run accepts
 pub accepted-holds : (file cells schedule : List ℕ) → runAnswer file cells schedule .number ≡ 0

@@ -15,8 +15,8 @@ use Rattle.layout.specs.Row.{readsB}
 use Rattle.steps.specs.Operations.{Effect, operated}
 use Rattle.steps.specs.Machine.{put}
 use Rattle.steps.specs.Plain.{afterTasks}
-use Rattle.steps.specs.Conflict.{taskAt, operationOf, namesCell, declaresWritten, Conflict, AllKeep, ReadsOnly}
-use Rattle.steps.proofs.Named.{written-named, named-below}
+use Rattle.steps.specs.Conflict.{taskAt, operationOf, namesCell, declaresWritten, Conflict, AllKeep, ReadsOnlyB}
+use Rattle.steps.proofs.Naming.{written-named, named-below}
 use Rattle.steps.proofs.Plain.{either-way, operated-same, tasks-length}
 use Rattle.steps.proofs.Scan.{MadeSoFar, operationsIn, WritersComplete, WritersIdle, plainAt, plainCell, plain-length, plain-more, plain-end, canon, canon-start, canon-same, canon-before, canon-here}
 
@@ -160,7 +160,7 @@ module _ (does : Effect) (tasks : List Task) (start : List ℕ) where
           canon-same does tasks start made (oneMore made j) c (length tasks)
           (λ i w. sym (more-other made j i (λ e. false≢true (cc))))
 
-      module _ (readsOnly : ReadsOnly does) where
+      module _ (readsOnly : ReadsOnlyB does) where
         step-named : (c : ℕ) → namesCell (taskAt tasks j) c ≡ true
             → getD (operated does (nextOperation tasks made j) cells) c 0 ≡ plainCell does tasks start j (suc (made j)) c
         step-named c named =

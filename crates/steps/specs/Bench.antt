@@ -90,7 +90,7 @@ bench =
     ∷ gives (ranOn (0 ∷ 0 ∷ 0 ∷ [])) (0 ∷ 0 ∷ 3 ∷ 0 ∷ 1 ∷ 0 ∷ 4660 ∷ 0 ∷ 5 ∷ [])
     -- P5
     ∷ gives (ranOn unposted) (0 ∷ 0 ∷ 5 ∷ 1 ∷ 1 ∷ 0 ∷ 4660 ∷ 0 ∷ 5 ∷ [])
-    -- and "the last write of task 1 isn't yet posted": a step of worker 0 more posts it
+    -- and "the last write of task 1 isn't yet posted": one more step of worker 0 posts it
     ∷ gives (postedOn unposted ∷ postedOn (unposted ++ (0 ∷ [])) ∷ []) (0 ∷ 1 ∷ [])
     -- P6
     ∷ gives (ranOn (replicate 7 0)) (0 ∷ 0 ∷ 6 ∷ 1 ∷ 1 ∷ 0 ∷ 4660 ∷ 0 ∷ 5 ∷ [])

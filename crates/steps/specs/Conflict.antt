@@ -56,7 +56,10 @@ pub record AllKeep (workers cells : ℕ) (tasks : List Task) : Type 0 where
 pub record TellsApart (tasks : List Task) (number : ℕ → ℕ) : Type 0 where
   pub apart : (i j : ℕ) → i ≤ length tasks → j ≤ length tasks → number i ≡ number j → i ≡ j
 
--- what an operation does depends on cell a only where its code reads a, and on cell b only where it reads b
-pub record ReadsOnly (does : Effect) : Type 0 where
+-- what an operation does depends on cell a only where its code reads a
+pub record ReadsOnlyA (does : Effect) : Type 0 where
   pub but-a : (o : Operation) (a a′ b : ℕ) → readsA (o .code) ≡ false → does o a b ≡ does o a′ b
+
+-- and on cell b only where it reads b
+pub record ReadsOnlyB (does : Effect) : Type 0 where
   pub but-b : (o : Operation) (a b b′ : ℕ) → readsB (o .code) ≡ false → does o a b ≡ does o a b′

@@ -14,7 +14,7 @@ use Rattle.steps.specs.Plain.{afterTasks}
 use Rattle.steps.specs.Step.{Setting, advanced, step}
 use Rattle.steps.specs.Run.{run, Names, finished, totalOf}
 use Rattle.steps.specs.History.{Entry, made, madeBy, historyFrom}
-use Rattle.steps.specs.Conflict.{taskAt, operationOf, declaresWritten, Conflict}
+use Rattle.steps.specs.Conflict.{taskAt, operationOf, declaresWritten, Conflict, ReadsOnlyA}
 
 -- ---- what is given
 
@@ -57,16 +57,17 @@ abbrev pub readable : Task → ℕ → ℕ → Bool
 readable task index cell = mayRead (modeOf (task .accesses) cell) (written (take index (task .operations)) cell)
 
 -- a. said of the cells: a named worker's step that makes an operation changes no cell but one that its task declares written, and what it writes
--- there is the same for any two contents of the cells that agree on those that its task declares readable at that point
+-- there is the same for any two contents of the cells, as many each, that agree on those that its task declares readable at that point
 pub record Touches (s : Setting) (m : Machine) (w : ℕ) (e : Entry) : Type 0 where
   pub cell : ℕ
   pub is-declared : declaresWritten (numbered s (e .task)) cell ≡ true
+  pub as-many : length (step s m w .machine .cells) ≡ length (m .cells)
   pub others-stay : (c : ℕ) → (c ≡ cell → ⊥) → getD (step s m w .machine .cells) c 0 ≡ getD (m .cells) c 0
   pub same-written : (one other : List ℕ) → length one ≡ length other
       → ((c : ℕ) → readable (numbered s (e .task)) (e .index) c ≡ true → getD one c 0 ≡ getD other c 0)
       → getD (step s (withCells m one) w .machine .cells) cell 0 ≡ getD (step s (withCells m other) w .machine .cells) cell 0
 
--- so do all steps from a machine on that make an operation, and those that make none change no cell
+-- the next step of any worker: one that makes an operation touches so, and one that makes none changes no cell
 pub record OnlyTouched (s : Setting) (m : Machine) : Type 0 where
   pub making : (w : ℕ) (e : Entry) → madeBy s m w ≡ e ∷ [] → Touches s m w e
   pub making-none : (w : ℕ) → madeBy s m w ≡ [] → step s m w .machine .cells ≡ m .cells
@@ -101,7 +102,8 @@ Values s workers cells schedule =
 
 pub record Demand3 (s : Setting) (workers : ℕ) (cells schedule : List ℕ) : Type 0 where
   pub declared : OnlyDeclared s (history s cells schedule)
-  pub touched : OnlyTouched s (run s cells schedule .machine)
+  -- (of operations that read cell a only where their code says so; 01's do, and no other statement asks it)
+  pub touched : ReadsOnlyA (s .does) → OnlyTouched s (run s cells schedule .machine)
   pub in-order : InOrder s (history s cells schedule)
   pub progress : Progress s workers (run s cells schedule .machine)
   pub total : Total s workers cells schedule
