@@ -124,7 +124,7 @@ go() { "$tree/sflw" run <<<"$1"; }
 
 # What a verb says and writes, and the status it gives. What is about to be done is said before it is done.
 statuses() {
-    SLOW=9 try 124 timeout 1.5 "$tree/sflw" run </dev/null && wrote
+    SLOW=20 try 124 timeout 4 "$tree/sflw" run </dev/null && wrote
     said 1 "sflw: proving sflw_run and all below, 2 of 2 crates: about a minute on two cores"
     try 0 go first && wrote 'ran first\n' && asked 1 && said 1 "proving sflw_run"
     try 0 go again && wrote 'ran again\n' && asked 0 && said 0
@@ -174,12 +174,13 @@ failures() {
     rm "$tree/crates/low/src/fault"
     try 0 go mended && wrote 'ran mended\n'
     echo 3 >>"$tree/crates/low/src/lib.rt"
-    SLOW=9 try 124 timeout 4 "$tree/sflw" run </dev/null && wrote && said 1 "proving sflw_run"
+    SLOW=20 try 124 timeout 6 "$tree/sflw" run </dev/null && wrote && said 1 "proving sflw_run"
     try 0 go after && wrote 'ran after\n' && asked 1
 }
 
-# Two runs at once, of which one proves.
+# Two runs at once, of which one proves; without flock they are not kept apart, and this is left out.
 at_once() {
+    command -v flock >/dev/null || return 0
     echo 4 >>"$tree/crates/low/src/lib.rt"
     : >"$asked"
     SLOW=1 go one >"$room/one" 2>"$room/err" &
