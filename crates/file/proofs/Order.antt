@@ -15,7 +15,7 @@ use Rattle.layout.specs.Refusal.{success, refusal, unless, orElse, firstAt}
 use Rattle.layout.specs.Row.{rowRefusal}
 use Rattle.layout.specs.Block.{blocksFor, blockRefusal}
 use Rattle.layout.specs.File.{blockAt, rowAt, tasksOf, workersOf, cellsOf, lengthSound, fileAnswer}
-use Rattle.roundtrip.proofs.Kept.{second-given, rule-passed, none-at}
+use Rattle.roundtrip.proofs.NoRefusal.{second-given, rule-passed, none-at}
 use Rattle.roundtrip.proofs.BlockRules.{BlockKept, block-keeps}
 use Rattle.block.specs.declared.Sizes.{Sizes}
 use Rattle.file.specs.declared.Answer.{Answer}

@@ -40,17 +40,17 @@ abbrev pub checkAll : Sizes → CheckAnswer
 checkAll sizes = record { number = 0; place = 0; tasks = sizes .tasks; workers = sizes .workers; cells = sizes .cells }
 
 module _ (file : List ℕ) (none : fileAnswer file .number ≡ 0) where
-  pub kept : FileKept file
-  kept = file-keeps file none
+  pub file-kept : FileKept file
+  file-kept = file-keeps file none
 
   pub succeeds : success ≡ fileAnswer file
-  succeeds = sym (keeps-file file kept)
+  succeeds = sym (keeps-file file file-kept)
 
   pub some-block : 512 ≤ length file
-  some-block = omega (arith, kept)
+  some-block = omega (arith, file-kept)
 
   pub rows-stand : length file ≡ 512 * blocksFor (tasksOf file)
-  rows-stand = omega (arith, kept, fewest file kept)
+  rows-stand = omega (arith, file-kept, fewest file file-kept)
 
   pub check-done : (sizes : Sizes) → Stated file sizes → CheckPromise file (checkAll sizes)
   check-done sizes stated =
@@ -85,7 +85,7 @@ module _ {file : List ℕ} {met : CheckAnswer} (promised : CheckPromise file met
 
     pub within : WithinLimits (met .tasks) (met .workers) (met .cells)
     within =
-        subst (λ (a : CheckAnswer). WithinLimits (a .tasks) (a .workers) (a .cells)) (sym met-is) (file-sizes file (kept file accepted))
+        subst (λ (a : CheckAnswer). WithinLimits (a .tasks) (a .workers) (a .cells)) (sym met-is) (file-sizes file (file-kept file accepted))
 
     -- where its rows stand
     pub rows-fit : (length file ≡ 512 * blocksFor (met .tasks)) × (met .tasks ≤ mostTasks)

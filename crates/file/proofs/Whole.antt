@@ -8,7 +8,7 @@ use native.Mathlib.Omega.{arith}
 use borrow.Author.Tests.{leb-true, lt-leb, le-leb, eqb-true, eq-eqb, ne-eqb}
 use lib.Dec.{eqb, leb}
 use Rattle.layout.proofs.Lists.{and-false}
-use Rattle.roundtrip.proofs.Kept.{and-iff}
+use Rattle.roundtrip.proofs.NoRefusal.{and-iff}
 
 -- there are bytes, no more than the most, and none is left over: rule 1 of blocks, and rule 15 of rows
 abbrev pub soundIn : ℕ → ℕ → ℕ → Bool

@@ -37,6 +37,9 @@ impl Flow {
     // The bytes of the longest file.
     pub const MAX_BYTES: usize = 512 * Flow::MAX_BLOCKS;
 
+    // The bytes of the most rows.
+    pub const MAX_ROW_BYTES: usize = 48 * Flow::MAX_TASKS as usize;
+
     // The lengths of arrays with a place for each worker or cell that a flow can have.
     pub const ROOM_FOR_WORKERS: usize = Flow::MAX_WORKERS as usize;
 

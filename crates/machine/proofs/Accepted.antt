@@ -14,7 +14,7 @@ use Rattle.roundtrip.proofs.Rows.{RowKept, row-keeps}
 use Rattle.roundtrip.proofs.Read.{file-sizes, row-sized}
 use Rattle.file.specs.declared.CheckAnswer.{CheckAnswer}
 use Rattle.file.specs.Promises.{CheckPromise}
-use Rattle.file.proofs.Outcomes.{kept, rows-stand, accepted, tasks-are, cells-are}
+use Rattle.file.proofs.Outcomes.{file-kept, rows-stand, accepted, tasks-are, cells-are}
 use Rattle.machine.specs.Arrays.{RowFits, Ready}
 
 -- ---- a row that keeps the rules
@@ -40,13 +40,13 @@ row-ready workers cells row few-workers few-cells sized k =
 
 module _ (file : List ℕ) (none : fileAnswer file .number ≡ 0) where
   sizes : WithinLimits (tasksOf file) (workersOf file) (cellsOf file)
-  sizes = file-sizes file (kept file none)
+  sizes = file-sizes file (file-kept file none)
 
   kept-row : (i : ℕ) → i < tasksOf file → RowFits (rowAt file (i + 1)) (cellsOf file)
   kept-row i h =
       row-ready (workersOf file) (cellsOf file) (rowAt file (i + 1)) (sizes .workers-fit) (sizes .cells-fit)
-      (row-sized file (kept file none) i h)
-      (row-keeps (workersOf file) (cellsOf file) (rowAt file (i + 1)) (kept file none .rows i h))
+      (row-sized file (file-kept file none) i h)
+      (row-keeps (workersOf file) (cellsOf file) (rowAt file (i + 1)) (file-kept file none .rows i h))
 
   file-ready : Ready file (tasksOf file) (cellsOf file)
   file-ready =

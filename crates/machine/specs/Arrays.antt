@@ -20,7 +20,8 @@ use Rattle.layout.specs.File.{rowAt, tasksIn}
 use Rattle.steps.specs.Operations.{effect}
 use Rattle.steps.specs.Machine.{Counter, Place, Machine, counter, place, withPlace}
 use Rattle.steps.specs.Run.{settingFor}
-use Rattle.steps.specs.Step.{Try, waitWrite, waitReads, operate, endRead, zeroReads, postWrite, writes, Setting, Outcome, advanced, pastLast, writeDiffers, readsDiffer, outcome, change, stepped, attempted, step}
+use Rattle.steps.specs.Step as Rules
+use Rattle.steps.specs.Step.{Try, waitWrite, waitReads, operate, endRead, zeroReads, postWrite, writes, Setting, advanced, pastLast, writeDiffers, readsDiffer, outcome, change, stepped, attempted, step}
 
 -- ---- counters
 
@@ -216,7 +217,7 @@ Changed row w number stage index before after =
     × (machineOf [] after ≡ change effect number (machineOf [] before) w (tryAt row stage index))
 
 -- whether the worker moves on after a step with this outcome
-abbrev pub movesOn : Outcome → Bool
+abbrev pub movesOn : Rules.Outcome → Bool
 movesOn advanced = true
 movesOn pastLast = false
 movesOn (writeDiffers cell) = false
@@ -230,11 +231,11 @@ goesTo file before w =
     ((passedAt before w + 1) ∷ 0 ∷ 0 ∷ [])
 
 -- the places after a step: the worker's is the next where it moves on, and all others stay
-abbrev pub placesAfter : Outcome → List (List ℕ) → ℕ → List ℕ → List (List ℕ)
+abbrev pub placesAfter : Rules.Outcome → List (List ℕ) → ℕ → List ℕ → List (List ℕ)
 placesAfter why places w next = cond (movesOn why) (set places w next) places
 
 -- the owner's next own step, made or held
-pub record OwnStep (row : List ℕ) (w : ℕ) (before : Arrays) (why : Outcome) (after : Arrays) : Type 0 where
+pub record OwnStep (row : List ℕ) (w : ℕ) (before : Arrays) (why : Rules.Outcome) (after : Arrays) : Type 0 where
   pub shape : Shape (after .shared) (after .private)
   pub cells-size : length (after .cells) ≡ length (before .cells)
   pub places-are : after .places
@@ -248,7 +249,7 @@ pub record OwnStep (row : List ℕ) (w : ℕ) (before : Arrays) (why : Outcome) 
       (placeOf tasks (nextPlace row (passedAt before w) (stageAt before w) (indexAt before w))))
 
 -- a step of a named worker
-pub record StepDone (file : List ℕ) (tasks w : ℕ) (before : Arrays) (why : Outcome) (after : Arrays) : Type 0 where
+pub record StepDone (file : List ℕ) (tasks w : ℕ) (before : Arrays) (why : Rules.Outcome) (after : Arrays) : Type 0 where
   pub sound : Steppable file tasks after
   pub places-are : after .places ≡ placesAfter why (before .places) w (goesTo file before w)
   pub machine-is : stepped why (machineOf (tasksIn file tasks) after) ≡ step (settingIn file tasks) (machineOf (tasksIn file tasks) before) w

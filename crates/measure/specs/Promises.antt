@@ -3,13 +3,13 @@ use mathlib.Core.Path.{_≡_}
 use mathlib.Core.List.{List}
 use Prim.Native.Nat.{ℕ, _≤_}
 use Rattle.layout.specs.Flow.{mostWorkers, mostCells}
-use Rattle.layout.specs.Refusal.{Answer}
+use Rattle.layout.specs.Refusal as Rules
 use Rattle.layout.specs.File.{fileAnswer, flowOf, tasksOf, workersOf, cellsOf, told}
 use Rattle.steps.specs.Run.{total, largestTotal}
 use Rattle.measure.specs.declared.Measured.{Measured}
 
 -- what is told with a number and a place that are met
-abbrev pub measuredWith : Answer → List ℕ → Measured
+abbrev pub measuredWith : Rules.Answer → List ℕ → Measured
 measuredWith met file =
     record {
       number = met .number;

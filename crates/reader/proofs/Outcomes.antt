@@ -9,6 +9,7 @@ use Rattle.layout.specs.Lists.{each, joined}
 use Rattle.layout.specs.Refusal as Rules
 use Rattle.layout.specs.Refusal.{success, refusal}
 use Rattle.layout.specs.File.{rowAt, tasksOf, fileAnswer, readAnswer, rowsOf, lentAfter}
+use Rattle.roundtrip.proofs.Places.{row-long}
 use Rattle.file.specs.declared.CheckAnswer.{CheckAnswer}
 use Rattle.file.specs.Promises.{CheckPromise}
 use Rattle.file.proofs.Order.{first-given, too-short, long-enough}
@@ -17,7 +18,6 @@ use Rattle.file.proofs.Laid.{laid, laid-is}
 use Rattle.reader.specs.declared.ReadAnswer.{ReadAnswer}
 use Rattle.reader.specs.Answers.{readRefused, readWith}
 use Rattle.reader.specs.Promises.{ReadPromise}
-use Rattle.reader.proofs.Laid.{row-long}
 
 -- ---- with a refusal
 

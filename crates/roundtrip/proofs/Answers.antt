@@ -13,7 +13,7 @@ use Rattle.layout.specs.Flow.{mostBytes, mostRowBytes, inRange, WithinLimits}
 use Rattle.layout.specs.Row.{rowRefusal}
 use Rattle.layout.specs.File.{fileAnswer, lengthSound, blocksOf, tasksOf, blockNumber, rowNumber}
 use Rattle.layout.specs.Write.{rowsAnswer, rowsSound, rowCount, rowOfTask}
-use Rattle.roundtrip.proofs.Kept.{and-iff, both-zero, second-given, rule-then, rule-passed, none-at, success-at}
+use Rattle.roundtrip.proofs.NoRefusal.{and-iff, both-zero, second-given, rule-then, rule-passed, none-at, success-at}
 
 -- ---- the file check
 

@@ -13,7 +13,7 @@ use Rattle.layout.specs.Bytes.{at, word, part, allZero}
 use Rattle.layout.specs.Refusal.{firstBroken}
 use Rattle.layout.specs.Fletcher.{fletcher}
 use Rattle.layout.specs.Block.{blockRefusal, blocksFor, rowsIn, checkSound, headSound, sizesSound}
-use Rattle.roundtrip.proofs.Kept.{rule-kept, and-iff}
+use Rattle.roundtrip.proofs.NoRefusal.{rule-kept, and-iff}
 
 pub record Head (blocks tasks workers cells index : ℕ) (block : List ℕ) : Type 0 where
   pub letter-s : at block 0 ≡ 83

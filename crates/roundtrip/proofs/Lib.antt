@@ -2,7 +2,7 @@
 pub mod Parts
 pub mod Pieces
 pub mod Below
-pub mod Kept
+pub mod NoRefusal
 pub mod Rows
 pub mod BlockRules
 pub mod BlockRead

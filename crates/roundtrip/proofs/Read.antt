@@ -18,7 +18,7 @@ use Rattle.roundtrip.proofs.Below.{bytes-part, bytes-joined}
 use Rattle.roundtrip.proofs.BlockRules.{BlockKept, block-keeps}
 use Rattle.roundtrip.proofs.BlockRead.{block-back}
 use Rattle.roundtrip.proofs.Answers.{FileKept, keep-rows}
-use Rattle.roundtrip.proofs.Places.{block-at, row-at, row-of-task}
+use Rattle.roundtrip.proofs.Places.{block-at, row-at, row-long, row-of-task}
 
 pub rows-bytes : (file : List ℕ) → IsBytes file → IsBytes (rowsOf file)
 unfolding rowsOf
@@ -46,9 +46,7 @@ module _ (file : List ℕ) (k : FileKept file) where
   -- ---- its rows
 
   pub row-sized : (i : ℕ) → i < tasksOf file → length (rowAt file (i + 1)) ≡ 48
-  row-sized i l =
-      let block : i / 10 < blocksOf file = rw fewest (omega arith) in
-      rw row-at (part-length (16 + 48 * (i % 10)) 48 (blockAt file (i / 10)) (rw (block-sized (i / 10) block) (omega arith)))
+  row-sized i l = row-long file (tasksOf file) i (omega (arith, k, fewest)) l
 
   pub rows-length : length (rowsOf file) ≡ 48 * tasksOf file
   unfolding rowsOf

@@ -17,7 +17,7 @@ use Rattle.layout.specs.Row.{modesSound, rowRefusal}
 use Rattle.layout.proofs.Lists.{and-left, and-right, each-length, all-keeps}
 use Rattle.roundtrip.proofs.Parts.{part-bytes, padded-back, word-back}
 use Rattle.roundtrip.proofs.Pieces.{joined-cut}
-use Rattle.roundtrip.proofs.Kept.{rule-kept, and-iff}
+use Rattle.roundtrip.proofs.NoRefusal.{rule-kept, and-iff}
 
 -- ---- what the rules say of a row
 

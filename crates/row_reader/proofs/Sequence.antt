@@ -13,12 +13,12 @@ use lib.Seq.{take-all}
 use denote.Ref.{RefT, now}
 use Rattle.layout.specs.Lists.{each, joined}
 use Rattle.layout.specs.Flow.{mostTasks}
-use Rattle.layout.specs.Refusal.{success, refusal}
+use Rattle.layout.specs.Refusal.{refusal}
 use Rattle.layout.specs.File.{rowAt, tasksOf, fileAnswer, rowsOf}
 use Rattle.layout.proofs.Lists.{each-same}
-use Rattle.roundtrip.proofs.Answers.{FileKept, file-keeps, keeps-file}
 use Rattle.roundtrip.proofs.Pieces.{joined-cut}
 use Rattle.roundtrip.proofs.Read.{file-sizes, row-sized, rows-length, row-there}
+use Rattle.file.proofs.Outcomes.{file-kept, succeeds}
 use Rattle.row_reader.specs.declared.Found.the-variants.{Row, End}
 use Rattle.row_reader.specs.declared.Fetched.{Fetched}
 use Rattle.row_reader.specs.declared.Rows.{Rows}
@@ -32,8 +32,8 @@ use Rattle.row_reader.proofs.Fetches.{with-refusal, without, has-row, h
 
 pub numbered : (file : List ℕ) (task : ℕ) → refusal (answerAt file task .number) (answerAt file task .place) ≡ fileAnswer file
 numbered file task =
-    let accepts : fileAnswer file .number ≡ 0 → success ≡ fileAnswer file = λ none. sym (keeps-file file (file-keeps file none)) in
-    by-answer file task (λ a. refusal (a .number) (a .place) ≡ fileAnswer file) (λ none there. accepts none) (λ none past. accepts none)
+    by-answer file task (λ a. refusal (a .number) (a .place) ≡ fileAnswer file) (λ none there. succeeds file none)
+    (λ none past. succeeds file none)
     (λ some. refl)
 
 -- ---- calls of any reader
@@ -67,9 +67,6 @@ by-call file i P row end = go (ltb i (tasksOf file)) refl
     go false e = end (ltb-false i (tasksOf file) e)
 
 module _ (file : List ℕ) (none : fileAnswer file .number ≡ 0) where
-  kept : FileKept file
-  kept = file-keeps file none
-
   place : (i : ℕ) → placeAfter i 1 ≡ min (1 + i) (mostTasks + 1)
   place i = goes-on-after i 1 (omega arith) (omega arith)
 
@@ -78,23 +75,23 @@ module _ (file : List ℕ) (none : fileAnswer file .number ≡ 0) where
       without file (placeAfter i 1) none
       ∙ by-call file i (λ a. given file (placeAfter i 1) ≡ a)
       (λ l.
-      let on : placeAfter i 1 ≡ i + 1 = omega (arith, place i, file-sizes file kept) in
+      let on : placeAfter i 1 ≡ i + 1 = omega (arith, place i, file-sizes file (file-kept file none)) in
       ap (given file) on ∙ has-row file (i + 1) (is-up-to (tasksOf file) (i + 1) (omega arith) (omega arith)))
-      (λ l. has-none file (placeAfter i 1) (is-past (tasksOf file) (placeAfter i 1) (omega (arith, place i, file-sizes file kept))))
+      (λ l. has-none file (placeAfter i 1) (is-past (tasksOf file) (placeAfter i 1) (omega (arith, place i, file-sizes file (file-kept file none)))))
 
   -- each answer gives its piece of the rows, and past them nothing
   gives-piece : (i : ℕ) → bytesGiven (answerOfCall file i) ≡ take 48 (drop (48 * i) (rowsOf file))
   gives-piece i =
       by-call file i (λ a. bytesGiven a ≡ take 48 (drop (48 * i) (rowsOf file)))
       (λ l.
-      take-all 48 (rowAt file (i + 1)) (omega (arith, row-sized file kept i l))
-      ∙ sym (row-there file kept i l))
-      (λ l. sym (ap (take 48) (drop-of-length-le (rowsOf file) {i = 48 * i} (omega (arith, rows-length file kept)))))
+      take-all 48 (rowAt file (i + 1)) (omega (arith, row-sized file (file-kept file none) i l))
+      ∙ sym (row-there file (file-kept file none) i l))
+      (λ l. sym (ap (take 48) (drop-of-length-le (rowsOf file) {i = 48 * i} (omega (arith, rows-length file (file-kept file none))))))
 
   all-given : (calls : ℕ) → tasksOf file ≤ calls → joined bytesGiven (each calls (answerOfCall file)) ≡ rowsOf file
   all-given calls enough =
       joined-cut 48 calls (rowsOf file) bytesGiven (answerOfCall file) (λ i l. gives-piece i)
-      ∙ take-all (48 * calls) (rowsOf file) (omega (arith, rows-length file kept))
+      ∙ take-all (48 * calls) (rowsOf file) (omega (arith, rows-length file (file-kept file none)))
 
 -- ---- calls of a reader that `new` makes
 

@@ -64,7 +64,7 @@ pub fn new<'a>(file: &'a [u8]) -> Rows<'a>
     Rows { file, task: 1 }
 }
 
-// What the reader finds at its place. It is moved on by one call.
+// What the reader finds at its place. The call moves it on.
 pub fn next<'s, 'a>(rows: &'s mut Rows<'a>) -> Fetched
     ensures { λ r. ⌜ NextPromise (now (rows .entry)) r (now (rows .exit)) ⌝ }
 {

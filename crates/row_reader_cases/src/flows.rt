@@ -2,6 +2,7 @@
 use flow::Flow;
 ghost use mathlib.Core.Path.{_≡_};
 ghost use lib.ListN.{length};
+ghost use Rattle.layout.specs.Flow.{mostRowBytes};
 
 // Flow A's rows. Task 1, owner 0, write 0: cell 0 becomes 4660. Task 2, owner 1, read 0, write 1: cell 1 becomes cell 0 swapped.
 // Task 3, owner 0, read 1, read and write 2: cell 2 becomes cell 2 + cell 1.
@@ -43,7 +44,7 @@ pub(crate) fn row_of(task: u32) -> [u8; 48] {
 }
 
 fn lay_rows(rows: &mut [u8])
-    requires { ⌜ length (now rows) ≡ 9600 ⌝ }
+    requires { ⌜ length (now rows) ≡ mostRowBytes ⌝ }
 {
     let mut done: u32 = 0;
     while done < Flow::MAX_TASKS {
@@ -54,10 +55,10 @@ fn lay_rows(rows: &mut [u8])
     }
 }
 
-pub(crate) fn largest_file() -> [u8; 10240] {
-    let mut rows = [0u8; 9600];
+pub(crate) fn largest_file() -> [u8; Flow::MAX_BYTES] {
+    let mut rows = [0u8; Flow::MAX_ROW_BYTES];
     lay_rows(&mut rows);
-    let mut file = [0u8; 10240];
+    let mut file = [0u8; Flow::MAX_BYTES];
     writer::write(&rows, 2, 1, &mut file);
     file
 }

@@ -3,6 +3,6 @@ pub mod Demand
 pub mod Done
 pub mod OneByOne
 pub mod Outcomes
-pub mod Told
+pub mod Finished
 pub mod Unique
 pub mod Walking

@@ -13,11 +13,11 @@ use Rattle.layout.specs.Flow.{Task, Flow, mostSchedule}
 use Rattle.layout.specs.Refusal as Rules
 use Rattle.layout.specs.Refusal.{success, refusal, unless, orElse, firstAt}
 use Rattle.layout.specs.File.{fileAnswer, flowOf, tasksIn}
-use Rattle.roundtrip.proofs.Kept.{kept, second-given, none-at, success-at}
+use Rattle.roundtrip.proofs.NoRefusal.{kept, second-given, none-at, success-at}
 use Rattle.roundtrip.proofs.Accepted.{flow-sound}
 use Rattle.steps.specs.Operations.{effect}
 use Rattle.steps.specs.Plain.{afterTasks}
-use Rattle.steps.specs.Run.{Run, settingOf, total}
+use Rattle.steps.specs.Run.{Run, Names, settingOf, total}
 use Rattle.steps.specs.Answers.{plainAnswer, plainCells, runAnswer, ran, toldOf, runTold, runCells}
 use Rattle.steps.proofs.Total.{total-bound}
 use Rattle.file.specs.declared.Answer.{Answer}
@@ -25,7 +25,7 @@ use Rattle.file.specs.declared.CheckAnswer.{CheckAnswer}
 use Rattle.file.specs.Answers.{answerOf}
 use Rattle.file.specs.Promises.{CheckPromise}
 use Rattle.file.proofs.Order.{first-given}
-use Rattle.file.proofs.Outcomes.{kept as file-kept, same-answer, accepted, tasks-held, workers-held, cells-held}
+use Rattle.file.proofs.Outcomes.{file-kept, same-answer, accepted, tasks-held, workers-held, cells-held}
 use Rattle.run.specs.declared.RunAnswer.{RunAnswer}
 use Rattle.run.specs.Promises.{plainIs, runIs, runRefused, PlainPromise, RunPromise, Walked}
 
@@ -128,7 +128,7 @@ module _ {file : List ℕ} {met : CheckAnswer} (promised : CheckPromise file met
           none-at (λ index. unless (ltb (getD schedule index 0) (met .workers)) 14) 0 (length schedule)
           (sym (ap (λ (a : Answer). a .number) found) ∙ all-named)
 
-      pub names : (i : ℕ) → i < length schedule → getD schedule i 0 < met .workers
+      pub names : Names (met .workers) schedule
       names i h =
           ltb-true (getD schedule i 0) (met .workers)
           (kept (ltb (getD schedule i 0) (met .workers)) 14 0 (omega arith) (rw zero-add at (each-named i h)) .0)

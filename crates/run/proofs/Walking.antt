@@ -19,7 +19,7 @@ use Rattle.layout.proofs.Lists.{each-length}
 use Rattle.steps.specs.Machine.{Machine, place, fresh}
 use Rattle.steps.specs.Step.{Setting, Stepped, step}
 use Rattle.steps.specs.Step as Rules
-use Rattle.steps.specs.Run.{Run, counted, runFrom, run, doneTasks, finished}
+use Rattle.steps.specs.Run.{Run, counted, runFrom, run, Names, doneTasks, finished}
 use Rattle.machine.specs.declared.Outcome.{Outcome}
 use Rattle.machine.specs.declared.Outcome.the-variants.{Advanced, PastLast, WriteDiffers, ReadsDiffer}
 use Rattle.machine.proofs.Outcome.{the-type}
@@ -119,7 +119,7 @@ module _ (file : List ℕ) (tasks : ℕ) where
   module _ {start schedule : List ℕ} {passed advanced held : ℕ} {kept : Arrays} (walking : Walking start schedule passed advanced held kept)
       (within : passed < length schedule) where
     -- the step can be taken
-    pub step-ready : (workers w : ℕ) → workers ≤ mostWorkers → length schedule ≤ mostSchedule → ((i : ℕ) → i < length schedule → getD schedule i 0 < workers)
+    pub step-ready : (workers w : ℕ) → workers ≤ mostWorkers → length schedule ≤ mostSchedule → Names workers schedule
         → w ≡ getD schedule passed 0
         → (Steppable file tasks kept × (w < mostWorkers)) × ReadsAtMost mostReads (machineOf held-in kept)
     step-ready workers w few short names is = (

@@ -7,13 +7,14 @@ use flow::Flow;
 use machine::Outcome;
 use machine::stepping::step;
 ghost use mathlib.Core.Path.{_≡_};
-ghost use Prim.Native.Nat.{ℕ, _≤_, _<_};
+ghost use Prim.Native.Nat.{_≤_};
 ghost use lib.ListN.{length, getD};
 ghost use lib.Dec.{ltb};
 ghost use Rattle.layout.specs.Flow.{mostWorkers, mostSchedule};
 ghost use Rattle.layout.specs.Refusal.{unless, firstAt};
 ghost use Rattle.file.specs.Answers.{answerOf};
 ghost use Rattle.layout.specs.File.{tasksIn};
+ghost use Rattle.steps.specs.Run.{Names};
 ghost use Rattle.machine.specs.Arrays.{Ready};
 ghost use Rattle.run.specs.Promises.{RunPromise, Walked};
 
@@ -41,7 +42,7 @@ fn schedule_met(schedule: &[u8], workers: u32) -> Answer
 // The steps of a schedule, from a fresh start, and what is told of them. A step that does not advance is held.
 fn walk(file: &[u8], tasks: u32, workers: u32, cells: &mut [u32], schedule: &[u8]) -> RunAnswer
     requires { ⌜ Ready (now file) tasks (length (now cells)) × (workers ≤ mostWorkers) × (length (now schedule) ≤ mostSchedule) ⌝ }
-    requires { ⌜ ((i : ℕ) → i < length (now schedule) → getD (now schedule) i 0 < workers) ⌝ }
+    requires { ⌜ Names workers (now schedule) ⌝ }
     ensures { λ r. ⌜ Walked (tasksIn (now (file .entry)) tasks) workers (now (cells .entry)) (now (schedule .entry)) r (now (cells .exit)) ⌝ }
 {
     let mut shared = [[0u32; 2]; Flow::ROOM_FOR_CELLS];

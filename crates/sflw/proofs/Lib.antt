@@ -1,3 +1,3 @@
 -- That the words of an answer are the core call's.
-pub mod Told
+pub mod Words
 pub mod Unique

@@ -5,7 +5,7 @@ use mathlib.Core.List.{List}
 use Prim.Native.Nat.{ℕ, _*_}
 use native.Mathlib.Omega.{arith}
 use lib.ListN.{length}
-use Rattle.layout.specs.Refusal.{Answer}
+use Rattle.layout.specs.Refusal as Rules
 use Rattle.layout.specs.Block.{blocksFor}
 use Rattle.layout.specs.File.{fileAnswer, readAnswer, rowsOf, tasksOf, workersOf, cellsOf}
 use Rattle.layout.specs.Write.{fileOf, rowCount, rowsAnswer, writeAnswer}
@@ -19,7 +19,7 @@ use Rattle.reader.specs.Promises.{ReadPromise}
 use Rattle.writer.specs.declared.WriteAnswer.{WriteAnswer}
 use Rattle.writer.specs.Answers.{writeWith}
 use Rattle.writer.specs.Promises.{WritePromise}
-use Rattle.undo.specs.Undo.{GivesRows, GivesFile}
+use Rattle.undo.specs.Undo.{ReadGives, WriteGives}
 use Rattle.undo.proofs.Filled.{Filled, rules-kept, tells-success, stands-first, rest-stays}
 
 -- ---- the reader
@@ -27,7 +27,7 @@ use Rattle.undo.proofs.Filled.{Filled, rules-kept, tells-success, stand
 -- a read fills the lent rows
 abbrev pub FillsRows : List ℕ → List ℕ → ReadAnswer → List ℕ → Type 0
 FillsRows file lent r after =
-    Filled (λ (a : ReadAnswer). a .number) (λ (met : Answer). readWith met file) (fileAnswer file) (48 * tasksOf file) (rowsOf file) lent r after
+    Filled (λ (a : ReadAnswer). a .number) (λ (met : Rules.Answer). readWith met file) (fileAnswer file) (48 * tasksOf file) (rowsOf file) lent r after
 
 pub read-fills : {file lent : List ℕ} {r : ReadAnswer} {after : List ℕ} → ReadPromise file lent r after → FillsRows file lent r after
 unfolding readAnswer
@@ -38,9 +38,9 @@ pub rows-long : (file : List ℕ) → fileAnswer file .number ≡ 0 → length (
 rows-long file accepted = rows-length file (file-keeps file accepted)
 
 -- a read that answers 0 gives the rows, the workers and the cells of the file
-pub gives-rows : {file lent : List ℕ} {r : ReadAnswer} {after : List ℕ} → ReadPromise file lent r after → r .number ≡ 0
-    → GivesRows (rowsOf file) (workersOf file) (cellsOf file) lent r after
-gives-rows {file} {lent} {r} promised none =
+pub read-gives : {file lent : List ℕ} {r : ReadAnswer} {after : List ℕ} → ReadPromise file lent r after → r .number ≡ 0
+    → ReadGives (rowsOf file) (workersOf file) (cellsOf file) lent r after
+read-gives {file} {lent} {r} promised none =
     let f = read-fills promised in
     let is = tells-success f none in
     let long = rows-long file (rules-kept f none) in
@@ -66,7 +66,7 @@ fileFor rows workers cells = fileOf (rowCount rows) workers cells rows
 -- a write fills the lent output
 abbrev pub FillsFile : List ℕ → ℕ → ℕ → List ℕ → WriteAnswer → List ℕ → Type 0
 FillsFile rows workers cells out w after =
-    Filled (λ (a : WriteAnswer). a .number) (λ (met : Answer). writeWith met rows) (rowsAnswer rows workers cells)
+    Filled (λ (a : WriteAnswer). a .number) (λ (met : Rules.Answer). writeWith met rows) (rowsAnswer rows workers cells)
     (512 * blocksFor (rowCount rows)) (fileFor rows workers cells) out w after
 
 pub write-fills : {rows : List ℕ} {workers cells : ℕ} {out : List ℕ} {w : WriteAnswer} {after : List ℕ}
@@ -81,7 +81,7 @@ module _ (rows : List ℕ) (workers cells : ℕ) (kept : rowsAnswer rows workers
   reads-back = reader-after-writer rows workers cells (keep-rows rows workers cells (rows-keep rows workers cells kept))
 
   pub accepts : fileAnswer (fileFor rows workers cells) .number ≡ 0
-  accepts = ap (λ (a : Answer). a .number) (reads-back .succeeds)
+  accepts = ap (λ (a : Rules.Answer). a .number) (reads-back .succeeds)
 
   -- it is as long as its blocks say
   pub file-long : length (fileFor rows workers cells) ≡ 512 * blocksFor (rowCount rows)
@@ -89,11 +89,11 @@ module _ (rows : List ℕ) (workers cells : ℕ) (kept : rowsAnswer rows workers
       rows-stand (fileFor rows workers cells) accepts ∙ ap (λ (tasks : ℕ). 512 * blocksFor tasks) (reads-back .same-tasks)
 
 -- a write that answers 0 gives the file of the rows
-pub gives-file : {rows : List ℕ} {workers cells : ℕ} {out : List ℕ} {w : WriteAnswer} {after : List ℕ}
+pub write-gives : {rows : List ℕ} {workers cells : ℕ} {out : List ℕ} {w : WriteAnswer} {after : List ℕ}
     → WritePromise rows workers cells out w after
     → w .number ≡ 0
-    → GivesFile (fileFor rows workers cells) out w after
-gives-file {rows} {workers} {cells} promised none =
+    → WriteGives (fileFor rows workers cells) out w after
+write-gives {rows} {workers} {cells} promised none =
     let f = write-fills promised in
     let is = tells-success f none in
     record {

@@ -7,32 +7,33 @@ use borrow.Author.Tests.{leb-true}
 use lib.ListN.{length, take, drop}
 use lib.Seq.{take-append-seam, drop-append-seam}
 use lib.Dec.{leb, lit<}
-use Rattle.layout.specs.Refusal.{Answer, success, refusal, unless, orElse}
+use Rattle.layout.specs.Refusal as Rules
+use Rattle.layout.specs.Refusal.{success, refusal, unless, orElse}
 use Rattle.layout.specs.File.{lentAfter}
-use Rattle.roundtrip.proofs.Kept.{kept, both-zero}
+use Rattle.roundtrip.proofs.NoRefusal.{kept, both-zero}
 use Rattle.file.proofs.Order.{long-enough, too-short}
 
 -- the answer that is met: that of the rules, and 16 where less is lent than needed
-abbrev met : Answer → ℕ → List ℕ → Answer
+abbrev met : Rules.Answer → ℕ → List ℕ → Rules.Answer
 met rules needed lent = orElse rules (refusal (unless (leb needed (length lent)) 16) 0)
 
 -- the call's answer `r` tells what is met, with its number, and the lent bytes are then as they must be
-pub record Filled {A : Type 0} (number : A → ℕ) (tells : Answer → A) (rules : Answer) (needed : ℕ) (bytes lent : List ℕ) (r : A)
+pub record Filled {A : Type 0} (number : A → ℕ) (tells : Rules.Answer → A) (rules : Rules.Answer) (needed : ℕ) (bytes lent : List ℕ) (r : A)
     (after : List ℕ) : Type 0 where
   pub answer : r ≡ tells (met rules needed lent)
-  pub numbered : (a : Answer) → number (tells a) ≡ a .number
+  pub numbered : (a : Rules.Answer) → number (tells a) ≡ a .number
   pub left : after ≡ lentAfter (met rules needed lent) bytes lent
 
-module _ {A : Type 0} {number : A → ℕ} {tells : Answer → A} {rules : Answer} {needed : ℕ} {bytes lent : List ℕ} {r : A} {after : List ℕ}
+module _ {A : Type 0} {number : A → ℕ} {tells : Rules.Answer → A} {rules : Rules.Answer} {needed : ℕ} {bytes lent : List ℕ} {r : A} {after : List ℕ}
     (f : Filled number tells rules needed bytes lent r after) where
   -- ---- for any answer that is known to be met
 
-  module _ {a : Answer} (e : a ≡ met rules needed lent) where
+  module _ {a : Rules.Answer} (e : a ≡ met rules needed lent) where
     tells-it : r ≡ tells a
     tells-it = f .answer ∙ ap tells (sym e)
 
     leaves : after ≡ lentAfter a bytes lent
-    leaves = f .left ∙ ap (λ (b : Answer). lentAfter b bytes lent) (sym e)
+    leaves = f .left ∙ ap (λ (b : Rules.Answer). lentAfter b bytes lent) (sym e)
 
   -- ---- the call answers 0
 

@@ -6,18 +6,18 @@ use mathlib.Core.List.{List}
 use Prim.Native.Nat.{ℕ}
 use lib.ListN.{length, take}
 use Rattle.layout.specs.Bytes.{IsBytes}
-use Rattle.layout.specs.Refusal.{Answer}
+use Rattle.layout.specs.Refusal as Rules
 use Rattle.layout.specs.File.{rowsOf, workersOf, cellsOf}
 use Rattle.layout.specs.Write.{rowsAnswer}
 use Rattle.roundtrip.proofs.Answers.{file-keeps, keeps-file}
-use Rattle.roundtrip.proofs.Theorems as Rules
+use Rattle.roundtrip.proofs.Theorems as ByRules
 use Rattle.reader.specs.declared.ReadAnswer.{ReadAnswer}
 use Rattle.reader.specs.Promises.{ReadPromise}
 use Rattle.writer.specs.declared.WriteAnswer.{WriteAnswer}
 use Rattle.writer.specs.Promises.{WritePromise}
 use Rattle.undo.specs.Undo.{ReaderAfterWriter, WriterAfterReader}
 use Rattle.undo.proofs.Filled.{rules-kept, fits, refused-16}
-use Rattle.undo.proofs.Calls.{read-fills, rows-long, gives-rows, fileFor, write-fills, reads-back, accepts, file-long, gives-file}
+use Rattle.undo.proofs.Calls.{read-fills, rows-long, read-gives, fileFor, write-fills, reads-back, accepts, file-long, write-gives}
 
 -- ---- 1. The reader after the writer
 
@@ -26,7 +26,7 @@ pub reader-after-writer : (rows : List ℕ) (workers cells : ℕ) (out : List �
     → w .number ≡ 0
     → ReaderAfterWriter rows workers cells w out-after
 reader-after-writer rows workers cells out w out-after promised none =
-    let made = gives-file promised none in
+    let made = write-gives promised none in
     let kept = rules-kept (write-fills promised) none in
     let back = reads-back rows workers cells kept in
     let accepted = accepts rows workers cells kept in
@@ -38,7 +38,7 @@ reader-after-writer rows workers cells out w out-after promised none =
           λ lent r lent-after room read.
           let again = rw file-is at read in
           rw (back .same-rows, back .same-workers, back .same-cells)
-          at (gives-rows again (fits (read-fills again) accepted (rw needed at room)));
+          at (read-gives again (fits (read-fills again) accepted (rw needed at room)));
       too-short = λ lent r lent-after room read. refused-16 (read-fills (rw file-is at read)) accepted (rw needed at room);
     }
 
@@ -49,10 +49,10 @@ pub writer-after-reader : (file lent : List ℕ) (r : ReadAnswer) (lent-after : 
     → r .number ≡ 0
     → WriterAfterReader file r lent-after
 writer-after-reader file lent r lent-after bytes promised none =
-    let read = gives-rows promised none in
+    let read = read-gives promised none in
     let kept = rules-kept (read-fills promised) none in
-    let back = Rules.writer-after-reader file bytes (keeps-file file (file-keeps file kept)) in
-    let accepted : rowsAnswer (rowsOf file) (workersOf file) (cellsOf file) .number ≡ 0 = ap (λ (a : Answer). a .number) (back .0) in
+    let back = ByRules.writer-after-reader file bytes (keeps-file file (file-keeps file kept)) in
+    let accepted : rowsAnswer (rowsOf file) (workersOf file) (cellsOf file) .number ≡ 0 = ap (λ (a : Rules.Answer). a .number) (back .0) in
     let rows-are : take (r .bytes) lent-after ≡ rowsOf file =
     ap (λ (n : ℕ). take n lent-after) (read .bytes-are) ∙ read .rows-first in
     let needed = sym (ap length (back .1)) ∙ file-long (rowsOf file) (workersOf file) (cellsOf file) accepted in
@@ -60,7 +60,7 @@ writer-after-reader file lent r lent-after bytes promised none =
       comes-back =
           λ out w out-after room write.
           let again = rw (rows-are, read .workers-are, read .cells-are) at write in
-          rw (back .1) at (gives-file again (fits (write-fills again) accepted (rw needed at room)));
+          rw (back .1) at (write-gives again (fits (write-fills again) accepted (rw needed at room)));
       too-short =
           λ out w out-after room write.
           refused-16 (write-fills (rw (rows-are, read .workers-are, read .cells-are) at write)) accepted (rw needed at room);

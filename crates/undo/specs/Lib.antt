@@ -1,2 +1,2 @@
--- What it says that the reader and the writer undo one another as calls.
+-- What it means that the reader and the writer undo one another as calls.
 pub mod Undo

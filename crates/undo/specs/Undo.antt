@@ -17,7 +17,7 @@ use Rattle.writer.specs.Promises.{WritePromise}
 -- ---- what the second call gives
 
 -- a read gives these rows, workers and cells
-pub record GivesRows (rows : List ℕ) (workers cells : ℕ) (lent : List ℕ) (r : ReadAnswer) (lent-after : List ℕ) : Type 0 where
+pub record ReadGives (rows : List ℕ) (workers cells : ℕ) (lent : List ℕ) (r : ReadAnswer) (lent-after : List ℕ) : Type 0 where
   -- it is no refusal
   pub number-is : r .number ≡ 0
   pub place-is : r .place ≡ 0
@@ -33,7 +33,7 @@ pub record GivesRows (rows : List ℕ) (workers cells : ℕ) (lent : List ℕ) (
   pub rest-stays : drop (length rows) lent-after ≡ drop (length rows) lent
 
 -- a write gives this file
-pub record GivesFile (file out : List ℕ) (w : WriteAnswer) (out-after : List ℕ) : Type 0 where
+pub record WriteGives (file out : List ℕ) (w : WriteAnswer) (out-after : List ℕ) : Type 0 where
   -- it is no refusal
   pub number-is : w .number ≡ 0
   pub place-is : w .place ≡ 0
@@ -50,7 +50,7 @@ pub record ReaderAfterWriter (rows : List ℕ) (workers cells : ℕ) (w : WriteA
   -- whoever reads them, into any lent rows that are long enough, has the rows, the workers and the cells again
   pub comes-back : (lent : List ℕ) (r : ReadAnswer) (lent-after : List ℕ) → length rows ≤ length lent
       → ReadPromise (take (w .bytes) out-after) lent r lent-after
-      → GivesRows rows workers cells lent r lent-after
+      → ReadGives rows workers cells lent r lent-after
   -- into shorter ones: 16, place 0, zero counts, and no lent byte changed
   pub too-short : (lent : List ℕ) (r : ReadAnswer) (lent-after : List ℕ) → length lent < length rows
       → ReadPromise (take (w .bytes) out-after) lent r lent-after
@@ -63,7 +63,7 @@ pub record WriterAfterReader (file : List ℕ) (r : ReadAnswer) (lent-after : Li
   -- whoever writes them, with the workers and the cells that were answered, into any lent output that is long enough, has the file again
   pub comes-back : (out : List ℕ) (w : WriteAnswer) (out-after : List ℕ) → length file ≤ length out
       → WritePromise (take (r .bytes) lent-after) (r .workers) (r .cells) out w out-after
-      → GivesFile file out w out-after
+      → WriteGives file out w out-after
   -- into a shorter one: 16, place 0, zero bytes, and no lent byte changed
   pub too-short : (out : List ℕ) (w : WriteAnswer) (out-after : List ℕ) → length out < length file
       → WritePromise (take (r .bytes) lent-after) (r .workers) (r .cells) out w out-after

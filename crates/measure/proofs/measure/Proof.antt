@@ -2,7 +2,7 @@
 use mathlib.Core.Path.{sym}
 use Rattle.file.proofs.Outcomes.{cells-are, within}
 use Rattle.machine.proofs.Accepted.{ready}
-use Rattle.measure.proofs.Told.{measure-refused, measure-done}
+use Rattle.measure.proofs.Measuring.{measure-refused, measure-done}
 use borrow.Author.Needs.{needs}
 use Rattle.measure.proofs.measure.Statement.{statement}
 use Rattle.measure.proofs.measure.Tie as tie

@@ -6,8 +6,8 @@ use Prim.Native.Nat.{ℕ, _+_, _-_, _≤_}
 use borrow.Author.Needs.{needs}
 use lib.ListN.{length}
 use Rattle.layout.specs.File.{rowStart, rowAt}
+use Rattle.roundtrip.proofs.Places.{row-long}
 use Rattle.file.proofs.Laid.{laid, laid-none, laid-more, copied}
-use Rattle.reader.proofs.Laid.{row-long}
 use Rattle.reader.proofs.copy_rows.Statement.{statement}
 use Rattle.reader.proofs.copy_rows.Tie as tie
 

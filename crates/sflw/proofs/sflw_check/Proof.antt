@@ -1,6 +1,6 @@
 -- `sflw_check`: the words are those of what was measured.
 use borrow.Author.Needs.{needs}
-use Rattle.sflw.proofs.Told as told
+use Rattle.sflw.proofs.Words as told
 use Rattle.sflw.proofs.sflw_check.Statement.{statement}
 use Rattle.sflw.proofs.sflw_check.Tie as tie
 

@@ -1,6 +1,6 @@
 -- `sflw_plain`: the words are those of the plain run's answer.
 use borrow.Author.Needs.{needs}
-use Rattle.sflw.proofs.Told as told
+use Rattle.sflw.proofs.Words as told
 use Rattle.sflw.proofs.sflw_plain.Statement.{statement}
 use Rattle.sflw.proofs.sflw_plain.Tie as tie
 

@@ -1,6 +1,6 @@
 -- `sflw_read`: the words are those of the reader's answer.
 use borrow.Author.Needs.{needs}
-use Rattle.sflw.proofs.Told as told
+use Rattle.sflw.proofs.Words as told
 use Rattle.sflw.proofs.sflw_read.Statement.{statement}
 use Rattle.sflw.proofs.sflw_read.Tie as tie
 

@@ -1,6 +1,6 @@
 -- `sflw_run`: the words are those of the stepped run's answer.
 use borrow.Author.Needs.{needs}
-use Rattle.sflw.proofs.Told as told
+use Rattle.sflw.proofs.Words as told
 use Rattle.sflw.proofs.sflw_run.Statement.{statement}
 use Rattle.sflw.proofs.sflw_run.Tie as tie
 

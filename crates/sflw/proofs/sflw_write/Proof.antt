@@ -1,6 +1,6 @@
 -- `sflw_write`: the words are those of the writer's answer.
 use borrow.Author.Needs.{needs}
-use Rattle.sflw.proofs.Told as told
+use Rattle.sflw.proofs.Words as told
 use Rattle.sflw.proofs.sflw_write.Statement.{statement}
 use Rattle.sflw.proofs.sflw_write.Tie as tie
 

@@ -3,12 +3,12 @@ use mathlib.Core.Path.{_≡_}
 use Prim.Native.Nat.{_≤_, _-_}
 use borrow.Author.Needs.{needs}
 use lib.ListN.{length}
-use Rattle.layout.specs.Flow.{mostTasks}
+use Rattle.layout.specs.Flow.{mostTasks, mostRowBytes}
 use Rattle.row_reader_cases.proofs.flows.lay_rows.Statement.{statement}
 use Rattle.row_reader_cases.proofs.flows.lay_rows.Tie as tie
 
 abbrev Inv-loop : tie.InvT-loop
-Inv-loop rows₀ done₀ rows done = (done ≤ mostTasks) × (length rows ≡ 9600)
+Inv-loop rows₀ done₀ rows done = (done ≤ mostTasks) × (length rows ≡ mostRowBytes)
 
 abbrev μ-loop : tie.MeasureT-loop
 μ-loop rows₀ done₀ rows done = mostTasks - done

@@ -7,7 +7,7 @@ use borrow.Author.Needs.{needs}
 use lib.ListN.{getD}
 use lib.Dec.{leb}
 use Rattle.layout.specs.Lists.{each, all}
-use Rattle.run.proofs.Told.{some-left, none-left, one-more}
+use Rattle.run.proofs.Finished.{some-left, none-left, one-more}
 use Rattle.run.proofs.telling.all_past.Statement.{statement}
 use Rattle.run.proofs.telling.all_past.Tie as tie
 
