@@ -76,10 +76,12 @@ returns c =
     let a = start .args in
     let held = held-at told .held in
     let changed = made .change in
+    -- the cells, the shared and the private counters as the change left them: its sixth to eighth argument
+    let left = changed .last .1 .1 .1 .1 .1 in
     own-step-made (a .row .now) (a .w) (lent start) (outcomeOf (held .result))
-    (changed .last .1 .1 .1 .1 .1 .0)
-    (changed .last .1 .1 .1 .1 .1 .1 .0)
-    (changed .last .1 .1 .1 .1 .1 .1 .1 .0)
+    (left .0)
+    (left .1 .0)
+    (left .1 .1 .0)
     (c .next .result)
     (ap outcomeOf (told .enum-told .given .1))
     (held .ensures)
