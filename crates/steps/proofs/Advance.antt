@@ -19,6 +19,7 @@ use Rattle.steps.proofs.OnCell.{on, stage, stage-end}
 use Rattle.steps.proofs.OwnMade.{made-past, order}
 use Rattle.steps.proofs.Places.{facing, Trying, Passes, Waits, on-write, on-reads, StepView, past, other, held, view}
 use Rattle.steps.proofs.Protocol.{inv-free}
+use Rattle.steps.proofs.Protocol.Words.{InConflict}
 use Rattle.steps.proofs.Rows.{kinds}
 use Rattle.steps.proofs.Seen.{seen, below-there, passes-there}
 use Rattle.steps.proofs.Invariant.{Kept}
@@ -59,28 +60,35 @@ least-below f zero v h = absurd (not-suc-le-zero h)
 least-below f (suc n) v h = least-of f n
 
 module _ (s : Setting) (workers cells : ℕ) (keep : AllKeep workers cells (s .tasks)) (m : Machine) (k : Kept s m) where
-  -- the tasks before those that every worker has gone past are complete on every cell
-  all-ended : (p : ℕ) → p ≤ length (s .tasks) → ((v : ℕ) → v < workers → p ≤ m .places v .passed) → (c i : ℕ) → i < p
+  -- a task that its owner has gone past is complete on every cell
+  pub past-ended : (c i : ℕ) → i < length (s .tasks) → i < m .places (taskAt (s .tasks) i .owner) .passed
       → seen s m c .stage i ≡ full (kinds s c i)
-  all-ended p inside least c i l =
-      let task = keep .each-task i (omega arith) in
+  past-ended c i inside gone =
       ap (stage (taskAt (s .tasks) i) c)
-      (made-past (length (ownSteps (taskAt (s .tasks) i))) i (m .places (taskAt (s .tasks) i .owner)) (omega (arith, least _ (task .owned))))
-      ∙ stage-end (taskAt (s .tasks) i) c (task .named-once)
+      (made-past (length (ownSteps (taskAt (s .tasks) i))) i (m .places (taskAt (s .tasks) i .owner)) gone)
+      ∙ stage-end (taskAt (s .tasks) i) c (keep .each-task i inside .named-once)
 
-  -- the owner of the first task that some worker is at is not held
-  passing : (w : ℕ) → ((v : ℕ) → v < workers → m .places w .passed ≤ m .places v .passed) → (try : Try) (c : ℕ) → on c try ≡ true → Trying s m w try
-      → Passes m w try
-  passing w least try c o trying =
+  -- the tasks before a worker's that are in conflict with it on a cell are complete there
+  abbrev pub Clear : ℕ → Type 0
+  Clear w =
+      (c i : ℕ) → i < m .places w .passed → InConflict (kinds s c i) (kinds s c (m .places w .passed)) → seen s m c .stage i ≡ full (kinds s c i)
+
+  -- so it is not held
+  passing : (w : ℕ) → Clear w → (try : Try) (c : ℕ) → on c try ≡ true → Trying s m w try → Passes m w try
+  passing w clear try c o trying =
       let once : namedOnce (facing s m w .accesses) ≡ true = keep .each-task _ (trying .at-task) .named-once in
       passes-there s m w try trying c once o (k .rows w)
-      (inv-free (kinds s c) (s .number) (length (s .tasks)) (seen s m c) (k .cells c) (m .places w .passed)
-      (all-ended (m .places w .passed) (omega (arith, trying .at-task)) least c) (below-there s m w try trying c once o))
+      (inv-free (kinds s c) (s .number) (length (s .tasks)) (seen s m c) (k .cells c) (m .places w .passed) (clear c)
+      (below-there s m w try trying c once o))
 
-  not-held : (w : ℕ) → ((v : ℕ) → v < workers → m .places w .passed ≤ m .places v .passed) → {try : Try} {why : Outcome} → Trying s m w try
-      → Waits m w try why → ⊥
-  not-held w least trying (on-write {c} differs) = differs (passing w least (waitWrite c) c (eq-eqb c c refl) trying)
-  not-held w least trying (on-reads {c} differs) = differs (passing w least (waitReads c) c (eq-eqb c c refl) trying)
+  pub not-held : (w : ℕ) → Clear w → {try : Try} {why : Outcome} → Trying s m w try → Waits m w try why → ⊥
+  not-held w clear trying (on-write {c} differs) = differs (passing w clear (waitWrite c) c (eq-eqb c c refl) trying)
+  not-held w clear trying (on-reads {c} differs) = differs (passing w clear (waitReads c) c (eq-eqb c c refl) trying)
+
+  -- nothing is left to do at the tasks that every worker has gone past
+  all-past : (w : ℕ) → m .places w .passed ≤ length (s .tasks) → ((v : ℕ) → v < workers → m .places w .passed ≤ m .places v .passed) → Clear w
+  all-past w inside least c i l between =
+      past-ended c i (omega arith) (omega (arith, least _ (keep .each-task i (omega arith) .owned)))
 
   -- a worker that has gone past the fewest tasks advances, or the owner of its task does
   pub progress : Progress s workers m
@@ -108,7 +116,7 @@ module _ (s : Setting) (workers cells : ℕ) (keep : AllKeep workers cells (s .t
           at-own e (past q) = absurd (omega (arith, at-task))
           at-own e (other h not-own none) = absurd (not-own (ap (λ (i : ℕ). taskAt (s .tasks) i .owner) e))
           at-own e (held trying q waits) =
-              absurd (not-held o (λ u h. omega (arith, best .least u h)) trying waits)
+              absurd (not-held o (all-past o (omega (arith, at-task)) (λ u h. omega (arith, best .least u h))) trying waits)
           at-own e (StepView.made trying q passes) = refl
 
           at-other : m .places v .passed < m .places o .passed → {r : Stepped} → StepView s m v r → r .outcome ≡ advanced

@@ -60,13 +60,20 @@ module _ (kind : ℕ → Kind) (number : ℕ → ℕ) (n : ℕ) where
       go write read ke le has c = I .order .begun i j h ke has
       go write write ke le has c = I .order .alone i j h le has
 
-  -- a task is not held where all tasks before it have ended
-  pub inv-free : (st : State) → Inv kind number n st → (p : ℕ) → ((i : ℕ) → i < p → Ended kind (st .stage) i) → st .stage p < full (kind p)
+  -- a task is not held where all tasks before it that are in conflict with it have ended
+  pub inv-free : (st : State) → Inv kind number n st → (p : ℕ) → ((i : ℕ) → i < p → InConflict (kind i) (kind p) → Ended kind (st .stage) i)
+      → st .stage p < full (kind p)
       → Allowed kind number st p
   inv-free st I p ended h = go (kind p) (st .stage p) refl refl h
     where
+      -- a task with steps left uses the cell, so it is in conflict with every write
+      with-write : (k : Kind) (s : ℕ) → s < full k → InConflict write k
+      with-write none s l = absurd (omega arith)
+      with-write read s l = tt
+      with-write write s l = tt
+
       opened : lastBefore kind p ≡ I .last
-      opened = open-after-posted kind number n st I p h (λ i l w. ended i l)
+      opened = open-after-posted kind number n st I p h (λ i l w. ended i l (rw w (with-write (kind p) (st .stage p) h)))
 
       shown : st .lastWrite ≡ number (lastBefore kind p)
       shown = I .shown ∙ ap number (sym opened)
@@ -79,7 +86,7 @@ module _ (kind : ℕ → Kind) (number : ℕ → ℕ) (n : ℕ) where
       go write zero ke se l = shown
       go write (suc zero) ke se l =
           I .count .counted p ke opened (omega arith)
-          ∙ sum-same kind (λ i. counts (st .stage i)) (λ i. 1) p (λ i b r. rw (ended i b, r))
+          ∙ sum-same kind (λ i. counts (st .stage i)) (λ i. 1) p (λ i b r. rw (ended i b (rw (r, ke) tt), r))
       go write (suc (suc zero)) ke se l = tt
       go write (suc (suc (suc zero))) ke se l = tt
       go write (suc (suc (suc (suc s)))) ke se l = tt
