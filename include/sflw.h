@@ -56,7 +56,9 @@ typedef struct sflw_run_answer {
     uint32_t place;
     uint32_t advanced; /* steps that advanced */
     uint32_t held;     /* steps that were held */
-    uint32_t done;     /* tasks done */
+    uint32_t done;     /* tasks of which the last end of the last access has
+                          been made: the owner has gone past the task, and
+                          no worker waits for it */
     uint32_t finished; /* 1 if all workers are past the last task, else 0 */
 } sflw_run_answer;
 

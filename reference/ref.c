@@ -560,17 +560,15 @@ static void register_task(struct run *run, struct worker *worker)
     enter_task(run, worker, worker->task + 1u);
 }
 
-/* "A task is done once its last operation has been made, or, with no
-   operations, its last wait has passed." Then come the ends. */
-static void task_done(struct run *run, struct worker *worker)
+/* "Then the ends, by access in listed order". */
+static void start_ends(struct worker *worker)
 {
-    run->done++;
     worker->phase = END;
     worker->index = 0;
 }
 
 /* The waits of one access have passed. */
-static void next_wait(struct run *run, struct worker *worker)
+static void next_wait(struct worker *worker)
 {
     if (++worker->index < worker->row[1]) {
         worker->phase = WAIT_WRITE;
@@ -578,7 +576,7 @@ static void next_wait(struct run *run, struct worker *worker)
         worker->phase = OPERATE;
         worker->index = 0;
     } else {
-        task_done(run, worker);
+        start_ends(worker);
     }
 }
 
@@ -589,7 +587,7 @@ static bool wait_write(struct run *run, struct worker *worker)
     if (worker->private[access[0]].last_write != run->shared[access[0]].last_write)
         return false;
     if (access[1] == MODE_READ)
-        next_wait(run, worker);
+        next_wait(worker);
     else
         worker->phase = WAIT_READS;
     return true;
@@ -601,7 +599,7 @@ static bool wait_reads(struct run *run, struct worker *worker)
     const uint8_t *access = next_access(worker);
     if (worker->private[access[0]].reads != run->shared[access[0]].reads)
         return false;
-    next_wait(run, worker);
+    next_wait(worker);
     return true;
 }
 
@@ -609,16 +607,19 @@ static void make_operation(struct run *run, struct worker *worker)
 {
     operate(worker->row + OPERATIONS_AT + worker->index * OPERATION, run->cells);
     if (++worker->index == worker->row[2])
-        task_done(run, worker);
+        start_ends(worker);
 }
 
-/* The ends of one access have been made. "After the last one it goes to the
+/* The ends of one access have been made. "A task is done once the last end of
+   its last access has been made" (02, Q-3). "After the last one it goes to the
    next task." */
 static void next_end(struct run *run, struct worker *worker)
 {
     worker->phase = END;
-    if (++worker->index == worker->row[1])
+    if (++worker->index == worker->row[1]) {
+        run->done++;
         enter_task(run, worker, worker->task + 1u);
+    }
 }
 
 /* "A read: one step, 1 added to shared and private reads. A write: one step

@@ -10,20 +10,19 @@ ghost use Rattle.layout.specs.Lists.{each, all};
 ghost use Rattle.layout.specs.Flow.{mostWorkers};
 ghost use Rattle.steps.specs.Run.{doneTasks};
 ghost use Rattle.layout.specs.File.{tasksIn};
-ghost use Rattle.machine.specs.Arrays.{arrays, machineOf, Ready, Standing};
+ghost use Rattle.machine.specs.Arrays.{arrays, machineOf, Ready};
 
-// How many tasks are done: the owner is past the task, or at it with only ends left.
+// How many tasks are done: the owner has gone past the task.
 pub(crate) fn done_tasks(file: &[u8], tasks: u32, cells: usize, places: &Places) -> u32
-    requires { ⌜ Ready (now file) tasks cells × Standing (now file) tasks (now places) × (length (now places) ≡ mostWorkers) ⌝ }
+    requires { ⌜ Ready (now file) tasks cells × (length (now places) ≡ mostWorkers) ⌝ }
     ensures { λ r. ⌜ r ≡ doneTasks (tasksIn (now (file .entry)) tasks) (machineOf (tasksIn (now (file .entry)) tasks) (arrays [] [] [] (now (places .entry)))) ⌝ }
 {
     let mut done: u32 = 0;
     let mut index: u32 = 0;
     while index < tasks {
-        let owner = octets::index(file[row::start(index + 1)]);
-        let passed = places[owner][0];
-        let stage = places[owner][1];
-        if (index < passed) | ((index == passed) & (3 <= stage)) {
+        let number = index + 1;
+        let owner = octets::index(file[row::start(number)]);
+        if number <= places[owner][0] {
             done += 1;
         }
         index += 1;

@@ -86,10 +86,10 @@ bench =
     ∷ gives (ranOn []) (0 ∷ 0 ∷ 0 ∷ 0 ∷ 0 ∷ 0 ∷ start)
     -- P3
     ∷ gives (ranOn (1 ∷ 1 ∷ [])) (0 ∷ 0 ∷ 1 ∷ 1 ∷ 0 ∷ 0 ∷ start)
-    -- P4
-    ∷ gives (ranOn (0 ∷ 0 ∷ 0 ∷ [])) (0 ∷ 0 ∷ 3 ∷ 0 ∷ 1 ∷ 0 ∷ 4660 ∷ 0 ∷ 5 ∷ [])
+    -- P4, with 02, Q-3: "P4 and P5 then report 0 done"
+    ∷ gives (ranOn (0 ∷ 0 ∷ 0 ∷ [])) (0 ∷ 0 ∷ 3 ∷ 0 ∷ 0 ∷ 0 ∷ 4660 ∷ 0 ∷ 5 ∷ [])
     -- P5
-    ∷ gives (ranOn unposted) (0 ∷ 0 ∷ 5 ∷ 1 ∷ 1 ∷ 0 ∷ 4660 ∷ 0 ∷ 5 ∷ [])
+    ∷ gives (ranOn unposted) (0 ∷ 0 ∷ 5 ∷ 1 ∷ 0 ∷ 0 ∷ 4660 ∷ 0 ∷ 5 ∷ [])
     -- and "the last write of task 1 isn't yet posted": one more step of worker 0 posts it
     ∷ gives (postedOn unposted ∷ postedOn (unposted ++ (0 ∷ [])) ∷ []) (0 ∷ 1 ∷ [])
     -- P6

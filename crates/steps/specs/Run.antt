@@ -1,14 +1,14 @@
--- A run under a schedule, its counts, and the flow's total (01, "The steps").
-use mathlib.Core.Bool.{Bool, cond, _&&_, _||_}
+-- A run under a schedule, its counts, and the flow's total (01, "The steps"; 02, Q-3).
+use mathlib.Core.Bool.{Bool, cond}
 use mathlib.Core.List.{List, [], _∷_}
 use Prim.Native.Nat.{ℕ, _+_, _-_, _*_, _<_}
 use lib.ListN.{length, getD}
-use lib.Dec.{eqb, leb, ltb}
+use lib.Dec.{leb, ltb}
 use Rattle.layout.specs.Lists.{each, all}
 use Rattle.layout.specs.Flow.{Access, Task, Flow, mostTasks, mostWorkers, mostAccesses, mostOperations}
 use Rattle.steps.specs.Operations.{effect}
 use Rattle.steps.specs.Machine.{Place, Machine, fresh}
-use Rattle.steps.specs.Step.{Setting, writes, waits, ofEach, Outcome, advanced, pastLast, writeDiffers, readsDiffer, step}
+use Rattle.steps.specs.Step.{Setting, writes, Outcome, advanced, pastLast, writeDiffers, readsDiffer, step}
 
 -- ---- the run
 
@@ -48,19 +48,14 @@ settingOf flow = settingFor (flow .tasks)
 
 -- ---- what is told of a run
 
--- "A task is done once its last operation has been made, or, with no operations, its last wait has passed": the own steps after
--- which it is
-abbrev pub doneAfter : Task → ℕ
-doneAfter task = length (ofEach waits (task .accesses)) + length (task .operations)
-
--- the task at an index is done where its owner has gone past it, or is at it and has made those steps
-abbrev pub isDone : Task → ℕ → Place → Bool
-isDone task index owner = ltb index (owner .passed) || eqb index (owner .passed) && leb (doneAfter task) (owner .made)
+-- "A task is done once the last end of its last access has been made" (02, Q-3): its owner has gone past the task at that index
+abbrev pub isDone : ℕ → Place → Bool
+isDone index owner = ltb index (owner .passed)
 
 -- the done tasks among those from an index on
 unfoldable pub doneFrom : (ℕ → Place) → ℕ → List Task → ℕ
 doneFrom places index [] = 0
-doneFrom places index (task ∷ tasks) = cond (isDone task index (places (task .owner))) 1 0 + doneFrom places (index + 1) tasks
+doneFrom places index (task ∷ tasks) = cond (isDone index (places (task .owner))) 1 0 + doneFrom places (index + 1) tasks
 
 abbrev pub doneTasks : List Task → Machine → ℕ
 doneTasks tasks m = doneFrom (m .places) 0 tasks

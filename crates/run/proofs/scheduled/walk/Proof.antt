@@ -69,7 +69,7 @@ loop-again c =
 done-tasks-requires : tie.Need-done-tasks-requires Inv-loop μ-loop
 done-tasks-requires c κs =
     let sound = c .before .before .loop .inv .3 .sound in
-    (sound .ready, sound .standing, sound .places-size)
+    (sound .ready, sound .places-size)
 
 returns : tie.Need-returns Inv-loop μ-loop
 returns c =
