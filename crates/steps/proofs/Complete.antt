@@ -1,6 +1,6 @@
 -- A task's operations come after all of its waits and before all of its ends. So a task that may make an operation has the cells that it names,
 -- every earlier task in conflict with it has ended its access, and so has made all of its operations.
-use mathlib.Core.Path.{_≡_, sym, ap₂, _∙_}
+use mathlib.Core.Path.{_≡_, refl, sym, ap₂, _∙_}
 use mathlib.Core.Bool.{Bool, true, _||_, false≢true}
 use mathlib.Core.List.{List}
 use Prim.Native.Nat.{ℕ, _-_, _<_, _≤_, min}
@@ -44,6 +44,26 @@ kinds-conflict : (one other : Task) (c : ℕ) → Conflict one other c → InCon
 kinds-conflict one other c conflict =
     in-conflict (kindOf one c) (kindOf other c) (sym (kind-names one c) ∙ conflict .one-names) (sym (kind-names other c) ∙ conflict .other-names)
     (ap₂ (λ (x y : Bool). x || y) (sym (kind-writes one c)) (sym (kind-writes other c)) ∙ conflict .written)
+
+-- and back
+both-use : (one other : Kind) → InConflict one other
+    → (naming one ≡ true) × (naming other ≡ true) × ((writing one || writing other) ≡ true)
+both-use none other c = absurd c
+both-use read none c = absurd c
+both-use read read c = absurd c
+both-use read write c = (refl, refl, refl)
+both-use write none c = absurd c
+both-use write read c = (refl, refl, refl)
+both-use write write c = (refl, refl, refl)
+
+pub conflict-of : (one other : Task) (c : ℕ) → InConflict (kindOf one c) (kindOf other c) → Conflict one other c
+conflict-of one other c between =
+    let both = both-use (kindOf one c) (kindOf other c) between in
+    record {
+      one-names = kind-names one c ∙ both .0;
+      other-names = kind-names other c ∙ both .1;
+      written = ap₂ (λ (x y : Bool). x || y) (kind-writes one c) (kind-writes other c) ∙ both .2;
+    }
 
 -- a task in conflict has the cell once its waits have passed, and where it has ended it has made an end
 acquired : (one other : Kind) (made : ℕ) → InConflict one other → waited other ≤ made → Acquired other made

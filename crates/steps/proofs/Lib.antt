@@ -6,6 +6,7 @@ pub mod Bench
 pub mod Cells
 pub mod Complete
 pub mod Demand3
+pub mod Done
 pub mod Errors
 pub mod Given
 pub mod History

@@ -10,5 +10,6 @@ pub mod Answers
 pub mod Bench
 pub mod Errors
 pub mod Conflict
+pub mod Done
 pub mod Demand
 pub mod Auditor
