@@ -3,16 +3,16 @@ use mathlib.Core.Path.{_≡_, refl, sym, ap, _∙_}
 use mathlib.Core.Bool.{Bool, true, false, _&&_, false≢true}
 use mathlib.Core.List.{List, [], _∷_, _++_, append-nil}
 use Prim.Native.Nat.{ℕ, zero, suc, _+_, _<_, _≤_}
-use native.Mathlib.Nat.{zero-add}
+use native.Mathlib.Nat.{zero-add, not-suc-le-zero, le-of-suc-le-suc}
 use native.Mathlib.Omega.{arith}
 use native.Mathlib.Numerals.{add-one}
-use borrow.Author.Tests.{ne-eqb}
+use borrow.Author.Tests.{eq-eqb, ne-eqb}
 use borrow.Author.Fill.{fill-more}
 use lib.ListN.{length, getD, take, drop, set, replicate, drop-of-length-le}
 use lib.Seq.{take-suc}
 use lib.Dec.{eqb, eqb·suc-zero}
 use Rattle.layout.specs.Bytes.{allZero}
-use Rattle.layout.proofs.Lists.{and-assoc}
+use Rattle.layout.proofs.Lists.{and-false, and-assoc}
 
 -- both of two numbers are zero exactly where their sum is
 pub eqb-sum : (m n : ℕ) → eqb (m + n) 0 ≡ (eqb m 0 && eqb n 0)
@@ -37,6 +37,19 @@ zero-more bytes i h =
     ∙ ap allZero (take-suc bytes i 0 h)
     ∙ zero-append (take i bytes) (getD bytes i 0 ∷ [])
     ∙ ap (λ (t : Bool). allZero (take i bytes) && t) (and-true (eqb (getD bytes i 0) 0))
+
+-- while no byte has been another, the bytes passed are all zero; and one that is tells of all
+pub zero-passed : (bytes : List ℕ) (i : ℕ) → i < length bytes → allZero (take i bytes) ≡ true → getD bytes i 0 ≡ 0
+    → allZero (take (i + 1) bytes) ≡ true
+zero-passed bytes i h before is =
+    zero-more bytes i h ∙ ap (λ (t : Bool). t && eqb (getD bytes i 0) 0) before ∙ eq-eqb (getD bytes i 0) 0 is
+
+pub zero-breaks : (bytes : List ℕ) (i : ℕ) → i < length bytes → (getD bytes i 0 ≡ 0 → ⊥) → allZero bytes ≡ false
+unfolding allZero
+zero-breaks [] i h other = absurd (not-suc-le-zero h)
+zero-breaks (byte ∷ bytes) zero h other = ap (λ (t : Bool). t && allZero bytes) (ne-eqb byte 0 other)
+zero-breaks (byte ∷ bytes) (suc i) h other =
+    ap (λ (t : Bool). eqb byte 0 && t) (zero-breaks bytes i (le-of-suc-le-suc h) other) ∙ and-false (eqb byte 0)
 
 -- a running sum that is zero exactly where the bytes passed all are stays so by the next byte
 pub sum-more : (bytes : List ℕ) (i sum byte : ℕ) → i < length bytes → byte ≡ getD bytes i 0 → eqb sum 0 ≡ allZero (take i bytes)

@@ -61,6 +61,20 @@ pub fn all_zero(bytes: &[u8]) -> bool
     sum == 0
 }
 
+// Whether a few bytes are all zero: it stops at the first that isn't, and needs hardly a register.
+pub fn few_zero(bytes: &[u8]) -> bool
+    ensures { λ r. ⌜ r ≡ allZero (now (bytes .entry)) ⌝ }
+{
+    let mut i = 0;
+    while i < bytes.len() {
+        if bytes[i] != 0 {
+            return false;
+        }
+        i += 1;
+    }
+    true
+}
+
 // Sets all bytes to zero.
 pub fn clear(bytes: &mut [u8])
     ensures { λ _. ⌜ now (bytes .exit) ≡ replicate (length (now (bytes .entry))) 0 ⌝ }
