@@ -85,6 +85,12 @@ access-cell cells row j t h =
     (and-left (ltb (at row (4 + 2 * j)) cells) (upTo 3 (at row (5 + 2 * j)))
     (all-keeps (accessInRange cells) (at row 1) (accessAt row) j h t))
 
+-- and a mode
+pub access-mode : (cells : ℕ) (x : Access) → accessInRange cells x ≡ true → (1 ≤ x .mode) × (x .mode ≤ 3)
+access-mode cells x t =
+    let within = and-right (ltb (x .cell) cells) (upTo 3 (x .mode)) t in
+    (leb-true 1 (x .mode) (and-left (leb 1 (x .mode)) (leb (x .mode) 3) within), leb-true (x .mode) 3 (and-right (leb 1 (x .mode)) (leb (x .mode) 3) within))
+
 -- and so it does where there are more cells
 pub accesses-more : (cells more : ℕ) (row : List ℕ) → cells ≤ more → accessesSound cells row ≡ true
     → all (accessInRange more) (taskOf row .accesses) ≡ true
@@ -132,10 +138,7 @@ names-mode cells (x ∷ xs) cell t =
     go (eqb (x .cell) cell) (names-mode cells xs cell (and-right (accessInRange cells x) (all (accessInRange cells) xs) t))
   where
     moded : 1 ≤ x .mode
-    moded =
-        leb-true 1 (x .mode)
-        (and-left (leb 1 (x .mode)) (leb (x .mode) 3)
-        (and-right (ltb (x .cell) cells) (upTo 3 (x .mode)) (and-left (accessInRange cells x) (all (accessInRange cells) xs) t)))
+    moded = access-mode cells x (and-left (accessInRange cells x) (all (accessInRange cells) xs) t) .0
 
     go : (here : Bool) → names xs cell ≡ not (eqb (modeOf xs cell) 0)
         → (here || names xs cell) ≡ not (eqb (cond here (x .mode) (modeOf xs cell)) 0)

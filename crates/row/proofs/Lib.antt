@@ -1,4 +1,5 @@
 -- Laws that the proofs of the row check share.
+pub mod Digits
 pub mod Table
 pub mod Indexes
 pub mod Operation

@@ -1,22 +1,26 @@
--- The table of modes that the row check fills: for each cell that a flow can have, the mode under which the task
--- names it, 0 where it doesn't. Once an operation has written a cell of mode 2, the cell may be read as well, as under mode 3.
-use mathlib.Core.Path.{_≡_}
-use mathlib.Core.Bool.{Bool, not, cond, _&&_, _||_}
-use mathlib.Core.List.{List}
-use Prim.Native.Nat.{ℕ, _<_}
-use lib.ListN.{getD}
+-- The table of modes that the row check makes of a task's accesses: one number, of which two binary digits belong to each cell
+-- that a flow can have. They hold the mode under which the task names the cell, 0 where it doesn't. Once an operation has
+-- written a cell of mode 2, the cell may be read as well, as under mode 3.
+use mathlib.Core.Bool.{Bool, not, _&&_, _||_}
+use mathlib.Core.List.{List, [], _∷_}
+use Prim.Native.Nat.{ℕ, _*_, _/_, _%_, _^_}
+use lib.Bits.{bitOr}
 use lib.Dec.{eqb}
-use Rattle.layout.specs.Flow.{Access, Operation, mostCells}
-use Rattle.layout.specs.Row.{modeOf, written, mayWrite, readsA, readsB}
+use Rattle.layout.specs.Flow.{Access}
+use Rattle.layout.specs.Row.{mayWrite, readsA, readsB}
 
--- a cell's mode after some operations
-abbrev pub modeAfter : List Access → List Operation → ℕ → ℕ
-modeAfter accesses earlier cell =
-    cond (eqb (modeOf accesses cell) 2 && written earlier cell) 3 (modeOf accesses cell)
+-- what the table has for a cell
+abbrev pub modeIn : ℕ → ℕ → ℕ
+modeIn modes cell = modes / 2 ^ (2 * cell) % 4
 
--- the table holds each cell's mode after some operations
-pub record Table (accesses : List Access) (earlier : List Operation) (modes : List ℕ) : Type 0 where
-  pub holds : (cell : ℕ) → cell < mostCells → getD modes cell 0 ≡ modeAfter accesses earlier cell
+-- the table, with the digits of a mode set for a cell as well
+abbrev pub withMode : ℕ → ℕ → ℕ → ℕ
+withMode modes cell mode = bitOr modes (mode * 2 ^ (2 * cell))
+
+-- the table of some accesses
+unfoldable pub tableOf : List Access → ℕ
+tableOf [] = 0
+tableOf (access ∷ accesses) = withMode (tableOf accesses) (access .cell) (access .mode)
 
 -- a cell of mode 1 or 3 may be read
 abbrev pub readable : ℕ → Bool

@@ -1,15 +1,14 @@
 // The check of a row: refusals 6 to 11. The row is read where the caller keeps its 48 bytes.
 use flow::Flow;
 ghost use mathlib.Core.Path.{_≡_};
-ghost use mathlib.Core.Bool.{true};
-ghost use mathlib.Core.List.{[]};
+ghost use mathlib.Core.Bool.{true, cond};
 ghost use Prim.Native.Nat.{_+_, _*_, _≤_, _<_};
-ghost use lib.ListN.{length, replicate};
+ghost use lib.ListN.{length};
 ghost use Rattle.layout.specs.Lists.{each, all};
 ghost use Rattle.layout.specs.Flow.{mostTasks, mostCells, mostAccesses, mostOperations};
 ghost use Rattle.layout.specs.File.{rowStart};
 ghost use Rattle.layout.specs.Row.{accessAt, taskOf, ownerSound, countsSound, accessInRange, accessesSound, namedOnce, operationSound, operationsSound, modesSound, rowRefusal};
-ghost use Rattle.row.specs.Table.{Table, keepsTable};
+ghost use Rattle.row.specs.Table.{modeIn, withMode, tableOf, keepsTable};
 
 // Where a task's row stands in a file: 48 bytes on from the row before it, and 32 more where a block ends in between. (A step waits for
 // this number, so it is worked out with one division and no remainder.)
@@ -76,29 +75,46 @@ fn accesses_sound(row: &[u8], cells: u32) -> bool
 {
     let count = octets::index(row[1]);
     let from = 4 + 2 * count;
-    let used = accesses_in_range(row, count, cells);
-    let unused = octets::all_zero(&row[from..12]);
-    used & unused
+    if !accesses_in_range(row, count, cells) {
+        return false;
+    }
+    octets::few_zero(&row[from..12])
 }
 
-// 9: no cell is named twice among the accesses. Each access, from the last to the first, goes into the table of modes.
-fn named_once(row: &[u8], modes: &mut [u8; Flow::ROOM_FOR_CELLS]) -> bool
+// What a table of modes has for a cell: two binary digits.
+fn mode_in(modes: u64, cell: u8) -> u64
+    requires { ⌜ cell < mostCells ⌝ }
+    ensures { λ r. ⌜ r ≡ modeIn modes cell ⌝ }
+{
+    (modes >> (2 * (cell as u32))) & 3
+}
+
+// A table of modes with the digits of a mode set for a cell as well.
+fn with_mode(modes: u64, cell: u8, mode: u8) -> u64
+    requires { ⌜ (cell < mostCells) × (mode ≤ 3) ⌝ }
+    ensures { λ r. ⌜ r ≡ withMode modes cell mode ⌝ }
+{
+    modes | ((mode as u64) << (2 * (cell as u32)))
+}
+
+// 9: the table of modes, into which each access goes, from the last to the first; 0 where a cell is named twice.
+fn modes_of(row: &[u8]) -> u64
     requires { ⌜ length (now row) ≡ 48 ⌝ }
     requires { ⌜ countsSound (now row) ≡ true ⌝ }
     requires { ⌜ all (accessInRange mostCells) (taskOf (now row) .accesses) ≡ true ⌝ }
-    requires { ⌜ now modes ≡ replicate mostCells 0 ⌝ }
-    ensures { λ r. ⌜ (r ≡ namedOnce (taskOf (now (row .entry)) .accesses)) × (r ≡ true → Table (taskOf (now (row .entry)) .accesses) [] (now (modes .exit))) ⌝ }
+    ensures { λ r. ⌜ r ≡ cond (namedOnce (taskOf (now (row .entry)) .accesses)) (tableOf (taskOf (now (row .entry)) .accesses)) 0 ⌝ }
 {
+    let mut modes: u64 = 0;
     let mut j = octets::index(row[1]);
     while 0 < j {
         j -= 1;
-        let cell = octets::index(row[4 + 2 * j]);
-        if modes[cell] != 0 {
-            return false;
+        let cell = row[4 + 2 * j];
+        if mode_in(modes, cell) != 0 {
+            return 0;
         }
-        modes[cell] = row[5 + 2 * j];
+        modes = with_mode(modes, cell, row[5 + 2 * j]);
     }
-    true
+    modes
 }
 
 // One used operation: a known code, cells within range, and zero what must be.
@@ -113,11 +129,8 @@ fn operation_sound(row: &[u8], i: usize, cells: u32) -> bool
     let spare = row[15 + 6 * i];
     let k = octets::word(row[16 + 6 * i], row[17 + 6 * i]);
     let known = ((1 <= code) & (code <= 6)) & (a < cells) & (b < cells);
-    if code == 1 {
-        known & (b == 0) & (spare == 0)
-    } else {
-        known & (k == 0) & (spare == 0)
-    }
+    let unused = if code == 1 { b } else { k };
+    known & (unused == 0) & (spare == 0)
 }
 
 // All used operations are sound.
@@ -144,13 +157,14 @@ fn operations_sound(row: &[u8], cells: u32) -> bool
 {
     let count = octets::index(row[2]);
     let from = 12 + 6 * count;
-    let used = used_sound(row, count, cells);
-    let unused = octets::all_zero(&row[from..48]);
-    used & unused
+    if !used_sound(row, count, cells) {
+        return false;
+    }
+    octets::all_zero(&row[from..48])
 }
 
 // One operation, by its code and by what the table has for its cells a and b, keeps to the modes.
-fn keeps_modes(code: u8, of_a: u8, of_b: u8) -> bool
+fn keeps_modes(code: u8, of_a: u64, of_b: u64) -> bool
     ensures { λ r. ⌜ r ≡ keepsTable code «of_a» «of_b» ⌝ }
 {
     let reads_a = (code == 3) | (code == 4) | (code == 6);
@@ -160,22 +174,26 @@ fn keeps_modes(code: u8, of_a: u8, of_b: u8) -> bool
 }
 
 // 11: every operation keeps to the modes. From then on the cell that it wrote may be read.
-fn all_keep_modes(row: &[u8], modes: &mut [u8; Flow::ROOM_FOR_CELLS]) -> bool
+fn all_keep_modes(row: &[u8], table: u64) -> bool
     requires { ⌜ length (now row) ≡ 48 ⌝ }
     requires { ⌜ countsSound (now row) ≡ true ⌝ }
+    requires { ⌜ all (accessInRange mostCells) (taskOf (now row) .accesses) ≡ true ⌝ }
+    requires { ⌜ namedOnce (taskOf (now row) .accesses) ≡ true ⌝ }
     requires { ⌜ operationsSound mostCells (now row) ≡ true ⌝ }
-    requires { ⌜ Table (taskOf (now row) .accesses) [] (now modes) ⌝ }
+    requires { ⌜ table ≡ tableOf (taskOf (now row) .accesses) ⌝ }
     ensures { λ r. ⌜ r ≡ modesSound (taskOf (now (row .entry))) ⌝ }
 {
     let count = octets::index(row[2]);
+    let mut modes = table;
     let mut i = 0;
     while i < count {
-        let a = octets::index(row[13 + 6 * i]);
-        let b = octets::index(row[14 + 6 * i]);
-        if !keeps_modes(row[12 + 6 * i], modes[a], modes[b]) {
+        let a = row[13 + 6 * i];
+        let of_a = mode_in(modes, a);
+        let of_b = mode_in(modes, row[14 + 6 * i]);
+        if !keeps_modes(row[12 + 6 * i], of_a, of_b) {
             return false;
         }
-        modes[a] = 3;
+        modes = with_mode(modes, a, 1);
         i += 1;
     }
     true
@@ -196,14 +214,14 @@ pub fn refusal(row: &[u8], workers: u32, cells: u32) -> u32
     if !accesses_sound(row, cells) {
         return 8;
     }
-    let mut modes = [0u8; Flow::ROOM_FOR_CELLS];
-    if !named_once(row, &mut modes) {
+    let modes = modes_of(row);
+    if modes == 0 {
         return 9;
     }
     if !operations_sound(row, cells) {
         return 10;
     }
-    if !all_keep_modes(row, &mut modes) {
+    if !all_keep_modes(row, modes) {
         return 11;
     }
     0

@@ -1,4 +1,6 @@
 -- `row::operation_sound` meets its contract: the bytes that are compared are those of operation i, and of its zeros the one that the code asks for.
+use mathlib.Core.Path.{_∙_}
+use mathlib.Core.Logic.{⊎-elim}
 use borrow.Author.Needs.{needs}
 use Rattle.row.proofs.Operation.{ReadsOf, sound-first, sound-other}
 use Rattle.row.proofs.operation_sound.Statement.{statement}
@@ -20,10 +22,9 @@ read : (c : tie.After-word)
 read c = record { of-a = a-read (b-read c) .wide .ensures .0; of-b = b-read c .wide2 .ensures .0 }
 
 returns : tie.Need-returns
-returns c = sound-first _ (read (c .before)) (c .if1 .taken)
-
-returns-2 : tie.Need-returns-2
-returns-2 c = sound-other _ (read (c .before)) _ (c .before .word .ensures .0) (c .if1 .left)
+returns c =
+    ⊎-elim (λ one. sound-first _ _ (read (c .before)) (one .0 .taken) (one .1))
+    (λ other. sound-other _ _ (read (c .before)) (other .0 .left) (other .1 ∙ c .before .word .ensures .0)) (c .if1 .came)
 
 pub operation-sound-spec : {M : Type 1} → statement M
 operation-sound-spec =
@@ -33,4 +34,4 @@ operation-sound-spec =
     (λ c. search needs) (λ c κs. search needs) (λ c. search needs) (λ c. search needs) (λ c. search needs)
     (λ c κs. search needs) (λ c. search needs) (λ c. search needs) (λ c. search needs) (λ c. search needs)
     (λ c. search needs) (λ c. search needs) (λ c. search needs) (λ c. search needs) (λ c. search needs)
-    (λ c κs. search needs) returns returns-2)
+    (λ c κs. search needs) returns)

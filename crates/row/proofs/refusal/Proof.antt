@@ -1,12 +1,15 @@
 -- `row::refusal` meets its contract: the rules are asked in their order, and what the rules before tell is what the next one asks for.
-use mathlib.Core.Path.{_≡_, refl, sym, _∙_}
+use mathlib.Core.Path.{_≡_, sym, _∙_}
 use mathlib.Core.Bool.{true, cond}
 use borrow.Author.Needs.{needs}
 use borrow.Author.Tests.{not-true, not-false}
 use Rattle.layout.specs.Flow.{mostCells}
 use Rattle.layout.specs.Refusal.{firstBroken}
-use Rattle.layout.specs.Row.{taskOf, ownerSound, countsSound, accessesSound, namedOnce, operationsSound, rowRefusal}
+use Rattle.layout.specs.Lists.{all}
+use Rattle.layout.specs.Row.{taskOf, ownerSound, countsSound, accessInRange, accessesSound, namedOnce, operationsSound, rowRefusal}
 use Rattle.layout.proofs.Modes.{accesses-more, operations-more}
+use Rattle.row.specs.Table.{tableOf}
+use Rattle.row.proofs.Once.{told-once, told-twice}
 use Rattle.row.proofs.refusal.Statement.{statement}
 use Rattle.row.proofs.refusal.Tie as tie
 
@@ -23,7 +26,7 @@ abbrev past-8 : tie.Else3 → tie.Start
 past-8 c = past-7 (c .before .before)
 
 abbrev past-9 : tie.Else4 → tie.Start
-past-9 c = past-8 (c .before .before .before)
+past-9 c = past-8 (c .before .before)
 
 abbrev past-10 : tie.Else5 → tie.Start
 past-10 c = past-9 (c .before .before)
@@ -36,7 +39,7 @@ abbrev back-to-7 : tie.Else3 → tie.Else2
 back-to-7 c = c .before .before
 
 abbrev back-to-8 : tie.Else4 → tie.Else3
-back-to-8 c = c .before .before .before
+back-to-8 c = c .before .before
 
 abbrev back-to-9 : tie.Else5 → tie.Else4
 back-to-9 c = c .before .before
@@ -52,8 +55,10 @@ kept-7 c = sym (c .before .counts-sound .ensures) ∙ not-false _ (c .if2 .left)
 kept-8 : (c : tie.Else3) → accessesSound (past-8 c .args .cells) (past-8 c .args .row .now) ≡ true
 kept-8 c = sym (c .before .accesses-sound .ensures) ∙ not-false _ (c .if3 .left)
 
-kept-9 : (c : tie.Else4) → namedOnce (taskOf (past-9 c .args .row .now) .accesses) ≡ true
-kept-9 c = sym (c .before .named-once .ensures .0) ∙ not-false _ (c .if4 .left)
+-- the table is then that of the accesses
+kept-9 : (c : tie.Else4)
+    → (namedOnce (taskOf (past-9 c .args .row .now) .accesses) ≡ true) × (c .before .modes-of .result ≡ tableOf (taskOf (past-9 c .args .row .now) .accesses))
+kept-9 c = told-once (past-9 c .args .row .now) (c .before .modes-of .ensures) (c .if4 .left)
 
 kept-10 : (c : tie.Else5) → operationsSound (past-10 c .args .cells) (past-10 c .args .row .now) ≡ true
 kept-10 c = sym (c .before .operations-sound .ensures) ∙ not-false _ (c .if5 .left)
@@ -77,18 +82,20 @@ returns-3 c =
     let seven = c .before .before in
     rw (kept-6 (back-to-6 seven), kept-7 seven, sym (c .before .accesses-sound .ensures) ∙ not-true _ (c .if3 .taken))
 
-named-once-requires : tie.Need-named-once-requires
-named-once-requires c κs =
-    let eight = c .before in
-    let start = past-8 eight in
-    (start .pre .0, (kept-7 (back-to-7 eight), (accesses-more _ mostCells _ (start .pre .1) (kept-8 eight), refl)))
+-- the accesses name cells that a flow can have
+named : (c : tie.Else3) → all (accessInRange mostCells) (taskOf (past-8 c .args .row .now) .accesses) ≡ true
+named c = accesses-more _ mostCells _ (past-8 c .pre .1) (kept-8 c)
+
+modes-of-requires : tie.Need-modes-of-requires
+modes-of-requires c κs = (past-8 c .pre .0, (kept-7 (back-to-7 c), named c))
 
 returns-4 : tie.Need-returns-4
 unfolding rowRefusal firstBroken
 returns-4 c =
-    let eight = c .before .before .before in
+    let eight = c .before .before in
     let seven = back-to-7 eight in
-    rw (kept-6 (back-to-6 seven), kept-7 seven, kept-8 eight, sym (c .before .named-once .ensures .0) ∙ not-true _ (c .if4 .taken))
+    let twice = told-twice (past-8 eight .args .row .now) (c .before .modes-of .ensures) (kept-7 seven) (named eight) (c .if4 .taken) in
+    rw (kept-6 (back-to-6 seven), kept-7 seven, kept-8 eight, twice)
 
 operations-sound-requires : tie.Need-operations-sound-requires
 operations-sound-requires c κs = (past-9 c .pre .0, kept-7 (back-to-7 (back-to-8 c)))
@@ -99,32 +106,33 @@ returns-5 c =
     let nine = c .before .before in
     let eight = back-to-8 nine in
     let seven = back-to-7 eight in
-    rw (kept-6 (back-to-6 seven), kept-7 seven, kept-8 eight, kept-9 nine, sym (c .before .operations-sound .ensures) ∙ not-true _ (c .if5 .taken))
+    rw (kept-6 (back-to-6 seven), kept-7 seven, kept-8 eight, kept-9 nine .0, sym (c .before .operations-sound .ensures) ∙ not-true _ (c .if5 .taken))
 
 all-keep-modes-requires : tie.Need-all-keep-modes-requires
 all-keep-modes-requires c κs =
-    let start = past-10 (c .before) in
-    let nine = back-to-9 (c .before) in (
+    let start = past-10 c in
+    let nine = back-to-9 c in
+    let eight = back-to-8 nine in (
       start .pre .0,
       (
-        kept-7 (back-to-7 (back-to-8 nine)),
-        (operations-more _ mostCells _ (start .pre .1) (kept-10 (c .before)), nine .before .named-once .ensures .1 (not-false _ (nine .if4 .left))),
+        kept-7 (back-to-7 eight),
+        (named eight, (kept-9 nine .0, (operations-more _ mostCells _ (start .pre .1) (kept-10 c), kept-9 nine .1))),
       ),
     )
 
 -- where the function starts, as seen once rule 11 is asked
 abbrev at-11 : tie.After-all-keep-modes → tie.Start
-at-11 c = past-10 (c .before .before)
+at-11 c = past-10 (c .before)
 
 last-rule : (c : tie.After-all-keep-modes)
     → rowRefusal (at-11 c .args .workers) (at-11 c .args .cells) (at-11 c .args .row .now) ≡ cond (c .all-keep-modes .result) 0 11
 unfolding rowRefusal firstBroken
 last-rule c =
-    let ten = c .before .before in
+    let ten = c .before in
     let nine = back-to-9 ten in
     let eight = back-to-8 nine in
     let seven = back-to-7 eight in
-    rw (kept-6 (back-to-6 seven), kept-7 seven, kept-8 eight, kept-9 nine, kept-10 ten, c .all-keep-modes .ensures)
+    rw (kept-6 (back-to-6 seven), kept-7 seven, kept-8 eight, kept-9 nine .0, kept-10 ten, c .all-keep-modes .ensures)
 
 returns-6 : tie.Need-returns-6
 returns-6 c = rw (last-rule (c .before), not-true (c .before .all-keep-modes .result) (c .if6 .taken))
@@ -137,5 +145,5 @@ refusal-spec =
     tie.close
     (tie.spec
     (λ c κs. search needs) returns (λ c κs. search needs) returns-2 accesses-sound-requires returns-3
-    named-once-requires returns-4 operations-sound-requires returns-5 all-keep-modes-requires returns-6
+    modes-of-requires returns-4 operations-sound-requires returns-5 all-keep-modes-requires returns-6
     returns-7)
