@@ -79,8 +79,8 @@ fn rows_met(file: &[u8], sizes: Sizes) -> Answer
     }
 }
 
-// The first refusal of a file.
-fn file_met(file: &[u8]) -> Answer
+// The first refusal of a file, 0 with place 0 where it meets none.
+pub fn first_refusal(file: &[u8]) -> Answer
     ensures { λ r. ⌜ r ≡ answerOf (fileAnswer (now (file .entry))) ⌝ }
 {
     let blocks = whole_blocks(file.len());
@@ -102,7 +102,7 @@ fn file_met(file: &[u8]) -> Answer
 pub fn check(file: &[u8]) -> CheckAnswer
     ensures { λ r. ⌜ CheckPromise (now (file .entry)) r ⌝ }
 {
-    let met = file_met(file);
+    let met = first_refusal(file);
     if met.number != 0 {
         return CheckAnswer::refused(met.number, met.place);
     }

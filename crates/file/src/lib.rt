@@ -2,6 +2,7 @@
 mod checking;
 
 pub use checking::check;
+pub use checking::first_refusal;
 ghost use mathlib.Core.Path.{_≡_};
 ghost use Rattle.layout.specs.Refusal.{refusal};
 ghost use Rattle.file.specs.Answers.{checkRefused};

@@ -1,6 +1,7 @@
 // The measuring of a flow file: its sizes and its total of advancing steps; and the schedule that names the workers in turn.
 mod turns;
 
+use flow::Flow;
 pub use turns::in_turn;
 ghost use mathlib.Core.Path.{_≡_};
 ghost use Prim.Native.Nat.{_+_, _-_, _*_, _≤_, _<_};
@@ -22,15 +23,20 @@ pub struct Measured {
     pub total: u32,
 }
 
-// The steps of a row's accesses: 2 for each read, 4 for each write.
+// The steps of a row's accesses: 2 for each read, 4 for each write. (The loop's bound is a constant, so that a compiler sees how few turns
+// there are.)
 fn access_steps(row: &[u8]) -> u32
     requires { ⌜ (length (now row) ≡ 48) × (getD (now row) 1 0 ≤ mostAccesses) ⌝ }
     ensures { λ r. ⌜ (r ≡ accessSteps (taskOf (now (row .entry)) .accesses)) × (r ≤ 4 * mostAccesses) ⌝ }
 {
     let count = octets::index(row[1]);
+    let most = octets::index(Flow::MAX_ACCESSES);
     let mut steps: u32 = 0;
     let mut j = 0;
-    while j < count {
+    while j < most {
+        if j == count {
+            return steps;
+        }
         if machine::counters::is_write(row, j) {
             steps += 4;
         } else {
@@ -61,7 +67,7 @@ fn tasks_total(file: &[u8], tasks: u32, workers: u32) -> u32
 pub fn measure(file: &[u8]) -> Measured
     ensures { λ r. ⌜ MeasurePromise (now (file .entry)) r ⌝ }
 {
-    let met = file::check(file);
+    let met = file::first_refusal(file);
     if met.number != 0 {
         return Measured {
             number: met.number,
@@ -72,13 +78,14 @@ pub fn measure(file: &[u8]) -> Measured
             total: 0,
         };
     }
-    let total = tasks_total(file, met.tasks, met.workers);
+    let sizes = block::sizes_of(file);
+    let total = tasks_total(file, sizes.tasks, sizes.workers);
     Measured {
         number: 0,
         place: 0,
-        tasks: met.tasks,
-        workers: met.workers,
-        cells: met.cells,
+        tasks: sizes.tasks,
+        workers: sizes.workers,
+        cells: sizes.cells,
         total,
     }
 }

@@ -10,13 +10,13 @@ use Rattle.file.proofs.checking.check.Tie as tie
 
 returns : tie.Need-returns
 returns c =
-    let met = c .before .before .before .file-met in
+    let met = c .before .before .before .first-refusal in
     check-refused (refusal (met .result .number) (met .result .place)) (c .before .if1 .taken) _ _
     (ap (λ (a : Answer). refusal (a .number) (a .place)) (met .ensures)) (c .refused .ensures)
 
 -- from here on, the file is accepted
 accepted : (c : tie.Else1) → fileAnswer (c .before .before .before .before .args .file .now) .number ≡ 0
-accepted c = sym (ap (λ (a : Answer). a .number) (c .before .before .file-met .ensures)) ∙ c .if1 .left
+accepted c = sym (ap (λ (a : Answer). a .number) (c .before .before .first-refusal .ensures)) ∙ c .if1 .left
 
 sizes-of-requires : tie.Need-sizes-of-requires
 sizes-of-requires c κs = some-block _ (accepted c)

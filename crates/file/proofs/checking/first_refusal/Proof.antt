@@ -1,4 +1,4 @@
--- `checking::file_met` meets its contract: length, blocks and rows are asked in the order of the definition, and each part
+-- `checking::first_refusal` meets its contract: length, blocks and rows are asked in the order of the definition, and each part
 -- stands within what the parts before it showed.
 use mathlib.Core.Path.{ap}
 use native.Mathlib.Omega.{arith}
@@ -8,8 +8,8 @@ use Rattle.layout.specs.Flow.{mostBytes}
 use Rattle.file.specs.Answers.{answerOf}
 use Rattle.file.proofs.Whole.{WholePieces, unsound, is-sound}
 use Rattle.file.proofs.Order.{length-refused, BlocksMet, block-refused, row-answers, rows-within}
-use Rattle.file.proofs.checking.file_met.Statement.{statement}
-use Rattle.file.proofs.checking.file_met.Tie as tie
+use Rattle.file.proofs.checking.first_refusal.Statement.{statement}
+use Rattle.file.proofs.checking.first_refusal.Tie as tie
 
 returns : tie.Need-returns
 returns c =
@@ -42,8 +42,8 @@ rows-met-requires c κs = rows-within (known (c .before .before)) (c .if2 .left)
 returns-3 : tie.Need-returns-3
 returns-3 c = row-answers (known (c .before .before .before)) (c .before .if2 .left) (c .rows-met .ensures)
 
-pub file-met-spec : {M : Type 1} → statement M
-file-met-spec =
+pub first-refusal-spec : {M : Type 1} → statement M
+first-refusal-spec =
     tie.close
     (tie.spec
     (λ c κs. search needs) returns sizes-of-requires blocks-met-requires returns-2 rows-met-requires
