@@ -203,6 +203,12 @@ static uint32_t check_row(const uint8_t *row, struct flow *flow)
     return check_operations(row, flow->cells, rights);
 }
 
+uint32_t ref_row(const uint8_t *row, uint32_t workers, uint32_t cells)
+{
+    struct flow flow = {1, workers, cells, 0};
+    return cells > MAX_CELLS ? 4 : check_row(row, &flow);
+}
+
 /* ---- the check of a file: refusals 1 to 11 ----------------------------- */
 
 static bool head_formed(const uint8_t *block, uint32_t index, uint32_t blocks)

@@ -22,9 +22,93 @@
 #include <sys/mman.h>
 #include <time.h>
 
-enum { MOST_SAMPLES = 101, LIBRARY = 0, REFERENCE = 1 };
+enum { MOST_SAMPLES = 101 };
 
-static const struct calls tables[2] = {LIBRARY_CALLS, REFERENCE_CALLS};
+/* Whose calls are made. What the measuring of a stack itself takes is
+   measured on calls that do nothing, and taken off. */
+enum side { LIBRARY, REFERENCE, NOTHING };
+
+/* ---- the calls --------------------------------------------------------- */
+
+static uint32_t nothing_check(const uint8_t *file, size_t file_len, sflw_check_answer *answer)
+{
+    (void)file;
+    (void)file_len;
+    answer->number = 0;
+    return 0;
+}
+
+static uint32_t nothing_read(const uint8_t *file, size_t file_len, uint8_t *rows,
+                             size_t rows_len, sflw_read_answer *answer)
+{
+    (void)file;
+    (void)file_len;
+    (void)rows;
+    (void)rows_len;
+    answer->number = 0;
+    return 0;
+}
+
+static uint32_t nothing_write(const uint8_t *rows, size_t rows_len, uint32_t workers,
+                              uint32_t count, uint8_t *bytes, size_t length,
+                              sflw_write_answer *answer)
+{
+    (void)rows;
+    (void)rows_len;
+    (void)workers;
+    (void)count;
+    (void)bytes;
+    (void)length;
+    answer->number = 0;
+    return 0;
+}
+
+static uint32_t nothing_plain(const uint8_t *file, size_t file_len, uint32_t *start,
+                              size_t count, sflw_plain_answer *answer)
+{
+    (void)file;
+    (void)file_len;
+    (void)start;
+    (void)count;
+    answer->number = 0;
+    return 0;
+}
+
+static uint32_t nothing_run(const uint8_t *file, size_t file_len, uint32_t *start, size_t count,
+                            const uint8_t *schedule, size_t schedule_len,
+                            sflw_run_answer *answer)
+{
+    (void)file;
+    (void)file_len;
+    (void)start;
+    (void)count;
+    (void)schedule;
+    (void)schedule_len;
+    answer->number = 0;
+    return 0;
+}
+
+static uint32_t nothing_row(const uint8_t *row, uint32_t workers, uint32_t count)
+{
+    (void)row;
+    (void)workers;
+    (void)count;
+    return 0;
+}
+
+static const struct calls tables[] = {
+    [LIBRARY] = LIBRARY_CALLS,
+    [REFERENCE] = REFERENCE_CALLS,
+    [NOTHING] = {"nothing", nothing_check, nothing_read, nothing_write, nothing_plain,
+                 nothing_run},
+};
+
+/* The check of a row by itself, which is no call of the library. */
+static uint32_t (*const row_checks[])(const uint8_t *, uint32_t, uint32_t) = {
+    [LIBRARY] = row_alone,
+    [REFERENCE] = ref_row,
+    [NOTHING] = nothing_row,
+};
 
 /* ---- what is measured -------------------------------------------------- */
 
@@ -78,55 +162,55 @@ static void make_setting(uint32_t tasks, uint32_t workers, uint32_t cell_count)
     set.random_len = just_finishes(set.random);
 }
 
-static void run_schedule(const struct calls *calls, const uint8_t *schedule, size_t length)
+static void run_schedule(enum side side, const uint8_t *schedule, size_t length)
 {
     sflw_run_answer answer;
-    calls->run(set.file, set.file_len, cells, set.flow.cells, schedule, length, &answer);
+    tables[side].run(set.file, set.file_len, cells, set.flow.cells, schedule, length, &answer);
 }
 
-static void run_fair(const struct calls *calls)
+static void run_fair(enum side side)
 {
-    run_schedule(calls, set.fair, set.fair_len);
+    run_schedule(side, set.fair, set.fair_len);
 }
 
-static void run_random(const struct calls *calls)
+static void run_random(enum side side)
 {
-    run_schedule(calls, set.random, set.random_len);
+    run_schedule(side, set.random, set.random_len);
 }
 
-static void run_empty(const struct calls *calls)
+static void run_empty(enum side side)
 {
-    run_schedule(calls, set.fair, 0);
+    run_schedule(side, set.fair, 0);
 }
 
-static void check_once(const struct calls *calls)
+static void check_once(enum side side)
 {
     sflw_check_answer answer;
-    calls->check(set.file, set.file_len, &answer);
+    tables[side].check(set.file, set.file_len, &answer);
 }
 
-static void read_once(const struct calls *calls)
+static void read_once(enum side side)
 {
     sflw_read_answer answer;
-    calls->read(set.file, set.file_len, out, sizeof out, &answer);
+    tables[side].read(set.file, set.file_len, out, sizeof out, &answer);
 }
 
-static void write_once(const struct calls *calls)
+static void write_once(enum side side)
 {
     sflw_write_answer answer;
-    calls->write(set.flow.rows, (size_t)set.flow.tasks * ROW_BYTES, set.flow.workers,
+    tables[side].write(set.flow.rows, (size_t)set.flow.tasks * ROW_BYTES, set.flow.workers,
                  set.flow.cells, out, sizeof out, &answer);
 }
 
-static void plain_once(const struct calls *calls)
+static void plain_once(enum side side)
 {
     sflw_plain_answer answer;
-    calls->plain(set.file, set.file_len, cells, set.flow.cells, &answer);
+    tables[side].plain(set.file, set.file_len, cells, set.flow.cells, &answer);
 }
 
 /* ---- time -------------------------------------------------------------- */
 
-typedef void job(const struct calls *calls);
+typedef void job(enum side side);
 
 static uint32_t samples = 31;
 
@@ -137,20 +221,20 @@ static double nanoseconds(void)
     return (double)time.tv_sec * 1e9 + (double)time.tv_nsec;
 }
 
-static double time_of(job *once, const struct calls *calls, uint32_t times)
+static double time_of(job *once, enum side side, uint32_t times)
 {
     double start = nanoseconds();
     for (uint32_t i = 0; i < times; i++)
-        once(calls);
+        once(side);
     return (nanoseconds() - start) / times;
 }
 
 /* As many times as take about a millisecond. */
-static uint32_t times_for(job *once, const struct calls *calls)
+static uint32_t times_for(job *once, enum side side)
 {
     double least = 1e6;
     for (uint32_t i = 0; i < 5; i++) {
-        double one = time_of(once, calls, 1);
+        double one = time_of(once, side, 1);
         if (one < least)
             least = one;
     }
@@ -183,14 +267,14 @@ static struct measured measure(job *once, job *less)
     struct measured measured;
     uint32_t times[2];
 
-    for (uint32_t which = 0; which < 2; which++)
-        times[which] = times_for(once, &tables[which]);
+    for (enum side side = LIBRARY; side <= REFERENCE; side++)
+        times[side] = times_for(once, side);
     for (uint32_t i = 0; i < samples; i++) {
         for (uint32_t turn = 0; turn < 2; turn++) {
-            uint32_t which = (turn + i) % 2;
-            taken[which][i] = time_of(once, &tables[which], times[which]);
+            enum side side = (turn + i) % 2 == 0 ? LIBRARY : REFERENCE;
+            taken[side][i] = time_of(once, side, times[side]);
             if (less != NULL)
-                taken[which][i] -= time_of(less, &tables[which], times[which]);
+                taken[side][i] -= time_of(less, side, times[side]);
         }
         ratios[i] = taken[LIBRARY][i] / taken[REFERENCE][i];
     }
@@ -270,76 +354,18 @@ static void time_growth(const char *what, job *once, job *less, double (*units)(
 
 /* ---- stack ------------------------------------------------------------- */
 
-enum { STACK = 1 << 20, PAINTED = 1 << 18, CASES_FOR_STACK = 400, PAINT = 0xc5 };
+enum { STACK = 1 << 20, PAINTED = 1 << 16, CASES_FOR_STACK = 400, PAINT = 0xc5 };
 
 static struct test_case current;
 
-static uint32_t nothing_check(const uint8_t *file, size_t file_len, sflw_check_answer *answer)
-{
-    (void)file;
-    (void)file_len;
-    answer->number = 0;
-    return 0;
-}
-
-static uint32_t nothing_read(const uint8_t *file, size_t file_len, uint8_t *rows,
-                             size_t rows_len, sflw_read_answer *answer)
-{
-    (void)file;
-    (void)file_len;
-    (void)rows;
-    (void)rows_len;
-    answer->number = 0;
-    return 0;
-}
-
-static uint32_t nothing_write(const uint8_t *rows, size_t rows_len, uint32_t workers,
-                              uint32_t count, uint8_t *bytes, size_t length,
-                              sflw_write_answer *answer)
-{
-    (void)rows;
-    (void)rows_len;
-    (void)workers;
-    (void)count;
-    (void)bytes;
-    (void)length;
-    answer->number = 0;
-    return 0;
-}
-
-static uint32_t nothing_plain(const uint8_t *file, size_t file_len, uint32_t *start,
-                              size_t count, sflw_plain_answer *answer)
-{
-    (void)file;
-    (void)file_len;
-    (void)start;
-    (void)count;
-    answer->number = 0;
-    return 0;
-}
-
-static uint32_t nothing_run(const uint8_t *file, size_t file_len, uint32_t *start, size_t count,
-                            const uint8_t *schedule, size_t schedule_len,
-                            sflw_run_answer *answer)
-{
-    (void)file;
-    (void)file_len;
-    (void)start;
-    (void)count;
-    (void)schedule;
-    (void)schedule_len;
-    answer->number = 0;
-    return 0;
-}
-
-/* What the measuring itself takes is measured on these, and taken off. */
-static const struct calls nothing = {"nothing",     nothing_check, nothing_read,
-                                     nothing_write, nothing_plain, nothing_run};
+/* The row that is checked by itself; where there is none, the case's call is
+   made. */
+static const uint8_t *current_row;
 
 static uint8_t lent_output[ROOM_OUTPUT];
 
 /* The call of the current case. */
-static void call_current(const struct calls *calls)
+static void call_case(const struct calls *calls)
 {
     static uint32_t answer[6];
     uint32_t *lent_cells = (uint32_t *)(void *)lent_output;
@@ -366,8 +392,16 @@ static void call_current(const struct calls *calls)
     }
 }
 
+static void call_current(enum side side)
+{
+    if (current_row != NULL)
+        row_checks[side](current_row, current.workers, current.cells);
+    else
+        call_case(&tables[side]);
+}
+
 struct probe {
-    const struct calls *calls;
+    enum side side;
     size_t deepest;
 };
 
@@ -383,7 +417,7 @@ __attribute__((noinline)) static void *probe_call(void *argument)
 
     for (volatile uint8_t *at = bottom; at < top; at++)
         *at = PAINT;
-    call_current(probe->calls);
+    call_current(probe->side);
     volatile uint8_t *at = bottom;
     while (at < top && *at == PAINT)
         at++;
@@ -391,14 +425,14 @@ __attribute__((noinline)) static void *probe_call(void *argument)
     return NULL;
 }
 
-static size_t deepest_of(const struct calls *calls, uint8_t *stack)
+static size_t deepest_of(enum side side, uint8_t *stack)
 {
-    struct probe probe = {calls, 0};
+    struct probe probe = {side, 0};
     pthread_attr_t attributes;
     pthread_t thread;
 
     memcpy(lent_output, current.output, current.output_len);
-    call_current(calls); /* once before, so that nothing is resolved under the probe */
+    call_current(side); /* once before, so that nothing is resolved under the probe */
     memcpy(lent_output, current.output, current.output_len);
     pthread_attr_init(&attributes);
     pthread_attr_setstack(&attributes, stack, STACK);
@@ -430,26 +464,71 @@ static void largest_case(uint32_t call)
     memcpy(current.schedule, set.fair, set.fair_len);
 }
 
-/* The deepest over the largest flow and some hundred cases of all kinds. The
-   eight bytes of the return address are counted. */
-static void measure_stack(uint32_t call, uint8_t *stack, size_t deepest[2])
+/* Measures the current call, and keeps the deepest so far. The eight bytes of
+   the return address are counted. */
+static void measure_current(uint8_t *stack, size_t deepest[2])
 {
-    deepest[LIBRARY] = 0;
-    deepest[REFERENCE] = 0;
-    for (uint32_t i = 0; i <= CASES_FOR_STACK; i++) {
-        if (i == 0)
-            largest_case(call);
-        else
-            make_case(9450, i, ALL_SIZES, &current);
-        if (current.call != call)
-            continue;
-        size_t base = deepest_of(&nothing, stack) - 8;
-        for (uint32_t which = 0; which < 2; which++) {
-            size_t found = deepest_of(&tables[which], stack) - base;
-            if (found > deepest[which])
-                deepest[which] = found;
-        }
+    size_t base = deepest_of(NOTHING, stack) - 8;
+    for (enum side side = LIBRARY; side <= REFERENCE; side++) {
+        size_t found = deepest_of(side, stack) - base;
+        if (found > deepest[side])
+            deepest[side] = found;
     }
+}
+
+/* A call: the deepest over the largest flow and some hundred cases of all
+   kinds. */
+static void measure_call(uint32_t call, uint8_t *stack, size_t deepest[2])
+{
+    largest_case(call);
+    measure_current(stack, deepest);
+    for (uint32_t i = 1; i <= CASES_FOR_STACK; i++) {
+        make_case(9450, i, ALL_SIZES, &current);
+        if (current.call == call)
+            measure_current(stack, deepest);
+    }
+}
+
+/* Two row checks that differ are not worth measuring. */
+static void hold_rows_together(void)
+{
+    uint32_t library = row_alone(current_row, current.workers, current.cells);
+    uint32_t reference = ref_row(current_row, current.workers, current.cells);
+    if (library != reference) {
+        fprintf(stderr, "bench: a row is %" PRIu32 " to the library, %" PRIu32
+                " to the reference\n", library, reference);
+        exit(1);
+    }
+}
+
+/* The rows of the current case of the writer. */
+static void measure_rows(uint8_t *stack, size_t deepest[2])
+{
+    for (size_t at = 0; at + ROW_BYTES <= current.input_len; at += ROW_BYTES) {
+        current_row = current.input + at;
+        hold_rows_together();
+        measure_current(stack, deepest);
+    }
+    current_row = NULL;
+}
+
+/* The row check by itself: the deepest over the rows that the writer is given
+   in the same cases. */
+static void measure_row_check(uint8_t *stack, size_t deepest[2])
+{
+    largest_case(CALL_WRITE);
+    measure_rows(stack, deepest);
+    for (uint32_t i = 1; i <= CASES_FOR_STACK; i++) {
+        make_case(9450, i, ALL_SIZES, &current);
+        if (current.call == CALL_WRITE)
+            measure_rows(stack, deepest);
+    }
+}
+
+static void stack_line(const char *what, const size_t deepest[2])
+{
+    printf("%-34s %10zu %10zu %8.2f\n", what, deepest[LIBRARY], deepest[REFERENCE],
+           (double)deepest[LIBRARY] / (double)deepest[REFERENCE]);
 }
 
 static void stack_table(void)
@@ -462,11 +541,13 @@ static void stack_table(void)
     make_setting(MOST_TASKS, MOST_WORKERS, MOST_CELLS);
     print_head("deepest stack, bytes");
     for (uint32_t call = CALL_CHECK; call <= CALL_RUN; call++) {
-        size_t deepest[2];
-        measure_stack(call, stack, deepest);
-        printf("%-34s %10zu %10zu %8.2f\n", call_name(call), deepest[LIBRARY],
-               deepest[REFERENCE], (double)deepest[LIBRARY] / (double)deepest[REFERENCE]);
+        size_t deepest[2] = {0, 0};
+        measure_call(call, stack, deepest);
+        stack_line(call_name(call), deepest);
     }
+    size_t deepest[2] = {0, 0};
+    measure_row_check(stack, deepest);
+    stack_line("row check by itself", deepest);
     munmap(stack, STACK);
 }
 

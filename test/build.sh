@@ -3,9 +3,10 @@
 #
 #     test/build.sh [FOLDER]
 #
-# FOLDER has libsflw.a, and sflw.h if it is not the one of include/; without
-# it target/staticlib is taken. Where there is no libsflw.a only the programs
-# that need none are built: scope, vectors and errors.
+# FOLDER has libsflw.a, librow_alone.a for the bench, and sflw.h if it is not
+# the one of include/; without it target/staticlib is taken. Where a library is
+# missing only the programs that need none of it are built: without libsflw.a
+# scope, vectors and errors.
 #
 # test/cc.sh says with which compiler.
 set -euo pipefail
@@ -41,9 +42,14 @@ build errors
 if [ -e "$folder/libsflw.a" ]; then
     build scope -DWITH_LIBRARY "$folder/libsflw.a"
     build differential "$folder/libsflw.a"
-    build bench "$folder/libsflw.a" -pthread
 else
-    rm -f "$to/differential" "$to/bench"
+    rm -f "$to/differential"
     build scope
-    echo "build.sh: no $folder/libsflw.a, so no differential and no bench"
+    echo "build.sh: no $folder/libsflw.a, so no differential"
+fi
+if [ -e "$folder/libsflw.a" ] && [ -e "$folder/librow_alone.a" ]; then
+    build bench "$folder/libsflw.a" "$folder/librow_alone.a" -pthread
+else
+    rm -f "$to/bench"
+    echo "build.sh: no $folder/libsflw.a or no librow_alone.a beside it, so no bench"
 fi

@@ -1,0 +1,19 @@
+// The check of one row as a call for C, so that its stack can be measured by itself (test/bench.c). It is no call of the library.
+use flow::Flow;
+ghost use mathlib.Core.Path.{_≡_};
+ghost use mathlib.Core.Bool.{cond};
+ghost use lib.Dec.{leb};
+ghost use Rattle.layout.specs.Flow.{mostCells};
+ghost use Rattle.layout.specs.Row.{rowRefusal};
+
+// The first of 6 to 11 that a row breaks, 0 where it breaks none; 4 where there are more cells than a flow can have.
+#[no_mangle]
+pub extern "C" fn row_alone(row: &[u8; 48], workers: u32, cells: u32) -> u32
+    ensures { λ r. ⌜ r ≡ cond (leb cells mostCells) (rowRefusal workers cells (now (row .entry))) 4 ⌝ }
+{
+    if cells > Flow::MAX_CELLS {
+        return 4;
+    }
+    let bytes: &[u8] = row;
+    row::refusal(bytes, workers, cells)
+}
