@@ -59,6 +59,50 @@ static void no_operation(struct test_case *made)
     put_flow(made, &flow);
 }
 
+/* ---- the last cells of 32 ---------------------------------------------- */
+
+/* One task of one worker with 32 cells, its row given. */
+static void one_row(struct test_case *made, const uint8_t *row, size_t length)
+{
+    struct sample flow = {1, 1, MOST_CELLS, {0}};
+    memcpy(flow.rows, row, length);
+    put_flow(made, &flow);
+}
+
+/* Cell 31 write only, cell 30 read; 31 becomes what 30 holds. */
+static void cells_30_and_31(struct test_case *made)
+{
+    static const uint8_t row[] = {0, 2, 1, 0, 31, 2, 30, 1, 0, 0, 0, 0, 2, 31, 30};
+    one_row(made, row, sizeof row);
+}
+
+static void cell_31_twice(struct test_case *made)
+{
+    static const uint8_t row[] = {0, 2, 0, 0, 31, 1, 31, 2};
+    one_row(made, row, sizeof row);
+}
+
+static void cell_31_read_at_once(struct test_case *made)
+{
+    static const uint8_t row[] = {0, 1, 1, 0, 31, 2, 0, 0, 0, 0, 0, 0, 2, 31, 31};
+    one_row(made, row, sizeof row);
+}
+
+static void cell_31_read_once_written(struct test_case *made)
+{
+    static const uint8_t row[] = {0, 1, 2, 0, 31, 2,  0,  0, 0, 0, 0, 0,
+                                  1, 31, 0, 0, 7, 0, 2, 31, 31};
+    one_row(made, row, sizeof row);
+}
+
+/* Cell 30 may be written and cell 31 only read: 31 is written after 30. */
+static void cell_31_written(struct test_case *made)
+{
+    static const uint8_t row[] = {0, 2, 2, 0, 30, 3, 31, 1, 0, 0, 0, 0,
+                                  1, 30, 0, 0, 7, 0, 1, 31, 0, 0, 7};
+    one_row(made, row, sizeof row);
+}
+
 /* ---- limits ------------------------------------------------------------ */
 
 static void put_largest(struct test_case *made)
@@ -202,6 +246,12 @@ const struct named_case named_cases[] = {
      {0, 0, 1, 0, 0, 0}, {7}},
     {"no operation: done with the last end", CALL_RUN, no_operation, "00", {7},
      {0, 0, 2, 0, 1, 1}, {7}},
+    {"cells 30 and 31 of 32", CALL_CHECK, cells_30_and_31, "", {0}, {0, 0, 1, 1, 32, 7}, {0}},
+    {"cell 31 named under modes 1 and 2", CALL_CHECK, cell_31_twice, "", {0}, {9, 1}, {0}},
+    {"cell 31 of mode 2 read at once", CALL_CHECK, cell_31_read_at_once, "", {0}, {11, 1}, {0}},
+    {"cell 31 of mode 2 read once written", CALL_CHECK, cell_31_read_once_written, "", {0},
+     {0, 0, 1, 1, 32, 6}, {0}},
+    {"cell 31 of mode 1 written", CALL_CHECK, cell_31_written, "", {0}, {11, 1}, {0}},
     {"200 tasks, 8 workers, 32 cells", CALL_CHECK, put_largest, "", {0},
      {0, 0, 200, 8, 32, 5800}, {0}},
     {"200 tasks, read", CALL_READ, put_largest, "", {0}, {0, 0, 9600, 200, 8, 32}, {0}},
