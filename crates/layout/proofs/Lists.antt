@@ -6,7 +6,7 @@ use Prim.Native.Nat.{ℕ, zero, suc, _+_, _<_}
 use native.Mathlib.Nat.{not-suc-le-zero, le-of-suc-le-suc}
 use native.Mathlib.Omega.{arith}
 use native.Mathlib.Numerals.{add-one}
-use lib.ListN.{length, getD}
+use lib.ListN.{length, getD, set}
 use Rattle.layout.specs.Lists.{each, all}
 
 -- ---- both of two tests
@@ -61,6 +61,19 @@ module _ {A : Type 0} where
   each-same (suc n) f g h =
       ap (λ (x : A). x ∷ each n (λ i. f (suc i))) (h 0 (Prim.Native.Nat.suc-le-suc Prim.Native.Nat.zero-le))
       ∙ ap (λ (t : List A). g 0 ∷ t) (each-same n (λ i. f (suc i)) (λ i. g (suc i)) (λ i l. h (suc i) (Prim.Native.Nat.suc-le-suc l)))
+
+  -- one member replaced
+  pub each-set : (n : ℕ) (f g : ℕ → A) (i : ℕ) (x : A) → x ≡ g i → ((j : ℕ) → (j ≡ i → ⊥) → f j ≡ g j) → set (each n f) i x ≡ each n g
+  unfolding each
+  each-set zero f g i x here others = refl
+  each-set (suc n) f g zero x here others =
+      let rest : each n (λ j. f (suc j)) ≡ each n (λ j. g (suc j)) =
+      each-same n (λ j. f (suc j)) (λ j. g (suc j)) (λ j l. others (suc j) (λ e. omega arith)) in
+      λ k. here k ∷ rest k
+  each-set (suc n) f g (suc i) x here others =
+      let rest : set (each n (λ j. f (suc j))) i x ≡ each n (λ j. g (suc j)) =
+      each-set n (λ j. f (suc j)) (λ j. g (suc j)) i x here (λ j apart. others (suc j) (λ e. apart (omega arith))) in
+      λ k. others 0 (λ e. omega arith) k ∷ rest k
 
   -- ---- a test of all
 

@@ -9,6 +9,7 @@ pub mod Demand3
 pub mod Done
 pub mod Errors
 pub mod Given
+pub mod Held
 pub mod History
 pub mod Invariant
 pub mod Kind

@@ -4,12 +4,14 @@ use mathlib.Core.List.{List}
 use Prim.Native.Nat.{ℕ}
 use lib.ListN.{length, getD}
 use lib.Dec.{eqb, leb, ltb}
-use Rattle.layout.specs.Flow.{Flow, mostSchedule}
+use Rattle.layout.specs.Lists.{each}
+use Rattle.layout.specs.Flow.{Flow, mostWorkers, mostSchedule}
 use Rattle.layout.specs.Refusal.{Answer, refusal, unless, orElse, firstAt}
 use Rattle.layout.specs.File.{fileAnswer, flowOf, told}
 use Rattle.steps.specs.Operations.{effect}
 use Rattle.steps.specs.Plain.{afterTasks}
 use Rattle.steps.specs.Run.{Run, run, settingOf, doneTasks, finished}
+use Rattle.steps.specs.Held.{Named, namedBy, heldFor, reasonOf, cellOf, latestOf}
 
 -- 12: "starting cells not as many as the flow's"
 abbrev pub startSound : Flow → List ℕ → Bool
@@ -67,6 +69,28 @@ toldOf met flow after =
 -- what it tells of a file, starting cells and a schedule
 unfoldable pub runTold : List ℕ → List ℕ → List ℕ → Told
 runTold file cells schedule = toldOf (runAnswer file cells schedule) (flowOf file) (ran file cells schedule)
+
+-- why its steps were held (02, Q-1): "a count of each", and of workers 0 to 7 "the reason and cell of its latest held step, or that it had none"
+pub record HeldTold : Type 0 where
+  pub past-last : ℕ
+  pub write-differs : ℕ
+  pub reads-differ : ℕ
+  pub reasons : List ℕ
+  pub cells : List ℕ
+
+-- "none if refused"
+abbrev pub heldOf : Answer → List Named → HeldTold
+heldOf met steps =
+    record {
+      past-last = told met (heldFor 1 steps);
+      write-differs = told met (heldFor 2 steps);
+      reads-differ = told met (heldFor 3 steps);
+      reasons = each mostWorkers (λ w. told met (reasonOf (latestOf w steps)));
+      cells = each mostWorkers (λ w. told met (cellOf (latestOf w steps)));
+    }
+
+unfoldable pub runHeld : List ℕ → List ℕ → List ℕ → HeldTold
+runHeld file cells schedule = heldOf (runAnswer file cells schedule) (namedBy (settingOf (flowOf file)) cells schedule)
 
 -- the lent cells after it
 unfoldable pub runCells : List ℕ → List ℕ → List ℕ → List ℕ

@@ -1,14 +1,17 @@
 -- Flow A on the bench (01, "A flow on the bench"): its file, byte for byte, and the cases P1 to P10 as a table of what is got and what
--- is expected. `proofs/Bench.antt` proves the table under a single statement.
+-- is expected, with why steps were held in them (02, Q-1). `proofs/Bench.antt` proves the table under a single statement.
 use mathlib.Core.List.{List, [], _∷_, _++_}
 use Prim.Native.Nat.{ℕ}
 use lib.ListN.{replicate}
 use Rattle.layout.specs.Bytes.{padded}
+use Rattle.layout.specs.Refusal.{success}
+use Rattle.layout.specs.Flow.{Task}
 use Rattle.layout.specs.Fletcher.{fletcher}
 use Rattle.layout.specs.File.{flowOf}
 use Rattle.steps.specs.Operations.{effect, operated}
-use Rattle.steps.specs.Run.{total}
-use Rattle.steps.specs.Answers.{Told, plainAnswer, plainCells, ran, runTold, runCells}
+use Rattle.steps.specs.Run.{settingFor, total}
+use Rattle.steps.specs.Held.{namedBy}
+use Rattle.steps.specs.Answers.{Told, HeldTold, plainAnswer, plainCells, ran, runTold, heldOf, runHeld, runCells}
 
 -- ---- the file: 2 workers, 3 cells, 3 tasks
 
@@ -46,6 +49,27 @@ unfoldable pub ranOn : List ℕ → List ℕ
 ranOn schedule =
     let told : Told = runTold flowA start schedule in
     told .number ∷ told .place ∷ told .advanced ∷ told .held ∷ told .done ∷ told .finished ∷ runCells flowA start schedule
+
+-- why steps were held (02, Q-1): the count of each reason, then the reasons and the cells of workers 0 to 7
+unfoldable pub heldNumbers : HeldTold → List ℕ
+heldNumbers why = why .past-last ∷ why .write-differs ∷ why .reads-differ ∷ (why .reasons ++ why .cells)
+
+unfoldable pub heldOn : List ℕ → List ℕ
+heldOn schedule = heldNumbers (runHeld flowA start schedule)
+
+-- the same of two tasks, of which worker 0's reads cells 0 and 1 and worker 1's then writes them
+unfoldable pub readThenWritten : List Task
+readThenWritten =
+    record { owner = 0; accesses = record { cell = 0; mode = 1 } ∷ record { cell = 1; mode = 1 } ∷ []; operations = [] }
+    ∷ record { owner = 1; accesses = record { cell = 0; mode = 2 } ∷ record { cell = 1; mode = 3 } ∷ []; operations = [] }
+    ∷ []
+
+unfoldable pub heldByReads : List ℕ → List ℕ
+heldByReads schedule = heldNumbers (heldOf success (namedBy (settingFor readThenWritten) (0 ∷ 0 ∷ []) schedule))
+
+-- what is told of the two workers, before those that the flow does not have
+unfoldable pub latest : List ℕ → List ℕ → List ℕ
+latest reasons cells = padded 8 reasons ++ padded 8 cells
 
 -- after the same steps, the shared last write of cell 0: the task that has posted it, or 0 where none has
 unfoldable pub postedOn : List ℕ → ℕ
@@ -98,6 +122,23 @@ bench =
     ∷ gives (ranOn whole) (0 ∷ 0 ∷ 22 ∷ 0 ∷ 3 ∷ 1 ∷ 4660 ∷ 13330 ∷ 13335 ∷ [])
     -- P8
     ∷ gives (ranOn (whole ++ (0 ∷ []))) (0 ∷ 0 ∷ 22 ∷ 1 ∷ 3 ∷ 1 ∷ 4660 ∷ 13330 ∷ 13335 ∷ [])
+    -- P2 to P8, why steps were held (02, Q-1): none was
+    ∷ gives (heldOn []) (0 ∷ 0 ∷ 0 ∷ latest [] [])
+    -- worker 1 waits for task 1 to write cell 0
+    ∷ gives (heldOn (1 ∷ 1 ∷ [])) (0 ∷ 1 ∷ 0 ∷ latest (0 ∷ 2 ∷ []) (0 ∷ 0 ∷ []))
+    ∷ gives (heldOn unposted) (0 ∷ 1 ∷ 0 ∷ latest (0 ∷ 2 ∷ []) (0 ∷ 0 ∷ []))
+    -- its next steps advance, and its latest held step stays
+    ∷ gives (heldOn (unposted ++ (0 ∷ 1 ∷ 1 ∷ []))) (0 ∷ 1 ∷ 0 ∷ latest (0 ∷ 2 ∷ []) (0 ∷ 0 ∷ []))
+    -- worker 0 waits for task 2 to write cell 1
+    ∷ gives (heldOn (replicate 7 0)) (0 ∷ 1 ∷ 0 ∷ latest (2 ∷ []) (1 ∷ []))
+    -- none was, and then worker 0 is past the last task
+    ∷ gives (heldOn whole) (0 ∷ 0 ∷ 0 ∷ latest [] [])
+    ∷ gives (heldOn (whole ++ (0 ∷ []))) (1 ∷ 0 ∷ 0 ∷ latest (1 ∷ []) [])
+    -- a byte that names no worker: nothing is told
+    ∷ gives (heldOn (1 ∷ 1 ∷ 2 ∷ [])) (0 ∷ 0 ∷ 0 ∷ latest [] [])
+    -- a writer waits for the reads of cell 0, and of cell 1 once those of cell 0 have ended
+    ∷ gives (heldByReads (1 ∷ 1 ∷ 1 ∷ [])) (0 ∷ 0 ∷ 1 ∷ latest (0 ∷ 3 ∷ []) (0 ∷ 0 ∷ []))
+    ∷ gives (heldByReads (1 ∷ 1 ∷ 1 ∷ 0 ∷ 0 ∷ 0 ∷ 1 ∷ 1 ∷ 1 ∷ [])) (0 ∷ 0 ∷ 2 ∷ latest (0 ∷ 3 ∷ []) (0 ∷ 1 ∷ []))
     -- P9: no bytes, the byte 255, and "abcde"
     ∷ gives (sumsOf []) (0 ∷ 0 ∷ [])
     ∷ gives (sumsOf (255 ∷ [])) (0 ∷ 0 ∷ [])

@@ -6,6 +6,7 @@ pub mod Machine
 pub mod Step
 pub mod Run
 pub mod History
+pub mod Held
 pub mod Answers
 pub mod Bench
 pub mod Errors
