@@ -18,7 +18,7 @@ use Rattle.layout.proofs.Lists.{each-length, each-at}
 use Rattle.layout.proofs.Modes.{each-drop}
 use Rattle.steps.specs.Machine.{place}
 use Rattle.steps.specs.Step.{Try, waitWrite, waitReads, operate, endRead, zeroReads, postWrite, writes, waits, ends, ofEach, ownSteps, moved}
-use Rattle.machine.specs.Arrays.{width, widthBefore, widthOf, madeAt, madeIn, placeOf, tryAt, Stands, afterWait, afterEnd, nextPlace}
+use Rattle.machine.specs.Arrays.{width, widthBefore, widthOf, madeAt, madeIn, numbersOf, placeOf, tryAt, Stands, afterWait, afterEnd, nextPlace, Placed}
 
 -- ---- the steps of each access, laid end to end
 
@@ -243,11 +243,11 @@ module _ (row : List ℕ) where
 -- after so many own steps a worker stands in the same task, one own step further, or it has made the task's last
 data Next (row : List ℕ) (passed made : ℕ) : List ℕ → Type 0 where
   within : (stage index : ℕ) → Stands row stage index → madeAt (taskOf row) stage index ≡ made + 1
-      → Next row passed made (passed ∷ stage ∷ index ∷ [])
-  beyond : made + 1 ≡ length (ownSteps (taskOf row)) → Next row passed made ((passed + 1) ∷ 0 ∷ 0 ∷ [])
+      → Next row passed made (numbersOf passed stage index)
+  beyond : made + 1 ≡ length (ownSteps (taskOf row)) → Next row passed made (numbersOf (passed + 1) 0 0)
 
 module _ (row : List ℕ) (passed made : ℕ) where
-  ends-begin : 1 ≤ getD row 1 0 → made + 1 ≡ widthOf (taskOf row) + getD row 2 0 → Next row passed made (passed ∷ 3 ∷ 0 ∷ [])
+  ends-begin : 1 ≤ getD row 1 0 → made + 1 ≡ widthOf (taskOf row) + getD row 2 0 → Next row passed made (numbersOf passed 3 0)
   unfolding Stands madeAt
   ends-begin some e =
       let start = width-none (taskOf row .accesses) in
@@ -266,7 +266,7 @@ module _ (row : List ℕ) (passed made : ℕ) where
           e ∙ ap (widthBefore (taskOf row .accesses)) none-left ∙ sym (width-all row)
 
       go : (more : Bool) → ltb (index + 1) (getD row 1 0) ≡ more → (some : Bool) → ltb 0 (getD row 2 0) ≡ some
-          → Next row passed made (cond more (passed ∷ 0 ∷ (index + 1) ∷ []) (cond some (passed ∷ 2 ∷ 0 ∷ []) (passed ∷ 3 ∷ 0 ∷ [])))
+          → Next row passed made (cond more (numbersOf passed 0 (index + 1)) (cond some (numbersOf passed 2 0) (numbersOf passed 3 0)))
       go true t some u = within 0 (index + 1) (ltb-true _ _ t) (sym e)
       go false t true u = within 2 0 (ltb-true _ _ u) (let all-made = last t in omega arith)
       go false t false u = ends-begin (omega arith) (let all-made = last t in omega (arith, ltb-false 0 (getD row 2 0) u))
@@ -278,7 +278,7 @@ module _ (row : List ℕ) (passed made : ℕ) where
   after-operation index some h e = go (ltb (index + 1) (getD row 2 0)) refl
     where
       go : (more : Bool) → ltb (index + 1) (getD row 2 0) ≡ more
-          → Next row passed made (cond more (passed ∷ 2 ∷ (index + 1) ∷ []) (passed ∷ 3 ∷ 0 ∷ []))
+          → Next row passed made (cond more (numbersOf passed 2 (index + 1)) (numbersOf passed 3 0))
       go true t = within 2 (index + 1) (ltb-true _ _ t) (omega arith)
       go false t = ends-begin some (omega (arith, ltb-false (index + 1) (getD row 2 0) t))
 
@@ -290,7 +290,7 @@ module _ (row : List ℕ) (passed made : ℕ) where
   after-end index h e = go (ltb (index + 1) (getD row 1 0)) refl
     where
       go : (more : Bool) → ltb (index + 1) (getD row 1 0) ≡ more
-          → Next row passed made (cond more (passed ∷ 3 ∷ (index + 1) ∷ []) ((passed + 1) ∷ 0 ∷ 0 ∷ []))
+          → Next row passed made (cond more (numbersOf passed 3 (index + 1)) (numbersOf (passed + 1) 0 0))
       go true t = within 3 (index + 1) (ltb-true _ _ t) (sym e)
       go false t =
           let none-left : index + 1 ≡ getD row 1 0 = omega (arith, ltb-false (index + 1) (getD row 1 0) t) in
@@ -308,7 +308,7 @@ next-is row passed zero index some h = go (writes (accessAt row index)) refl
     made = widthBefore (taskOf row .accesses) index
 
     go : (isWrite : Bool) → writes (accessAt row index) ≡ isWrite
-        → Next row passed made (cond isWrite (passed ∷ 1 ∷ index ∷ []) (afterWait row passed index))
+        → Next row passed made (cond isWrite (numbersOf passed 1 index) (afterWait row passed index))
     go true t = within 1 index (h, t) refl
     go false t = after-wait row passed made index h (omega (arith, width-next row index false h t))
 next-is row passed (suc zero) index some h =
@@ -320,7 +320,7 @@ next-is row passed (suc (suc (suc zero))) index some h = go (writes (accessAt ro
     made = widthOf (taskOf row) + length (taskOf row .operations) + widthBefore (taskOf row .accesses) index
 
     go : (isWrite : Bool) → writes (accessAt row index) ≡ isWrite
-        → Next row passed made (cond isWrite (passed ∷ 4 ∷ index ∷ []) (afterEnd row passed index))
+        → Next row passed made (cond isWrite (numbersOf passed 4 index) (afterEnd row passed index))
     go true t = within 4 index (h, t) refl
     go false t = after-end row passed made index h (omega (arith, width-next row index false h t))
 next-is row passed (suc (suc (suc (suc zero)))) index some h =
@@ -360,18 +360,20 @@ next-there row passed stage index tasks later some h e = go (nextPlace row passe
 
 -- ---- the next place, as one to stand at
 
+-- the place where a task begins
+pub begun : (file : List ℕ) (tasks passed : ℕ) → ((task : ℕ) → 1 ≤ task → task ≤ tasks → 1 ≤ getD (rowAt file task) 1 0)
+    → Placed file tasks (numbersOf passed 0 0)
+unfolding Stands
+begun file tasks passed some = record { starts = refl; stands = λ left. some (passed + 1) (omega arith) (omega arith) }
+
 -- the worker stands somewhere in the next task, if there is one
-pub next-stands : (file : List ℕ) (tasks passed stage index : ℕ)
+pub next-placed : (file : List ℕ) (tasks passed stage index : ℕ)
     → ((task : ℕ) → 1 ≤ task → task ≤ tasks → 1 ≤ getD (rowAt file task) 1 0)
     → passed < tasks
     → Stands (rowAt file (passed + 1)) stage index
-    → (next : List ℕ)
-    → next ≡ nextPlace (rowAt file (passed + 1)) passed stage index
-    → getD next 0 0 < tasks
-    → Stands (rowAt file (getD next 0 0 + 1)) (getD next 1 0) (getD next 2 0)
-unfolding Stands
-next-stands file tasks passed stage index some h stands next e =
-    go next (subst (Next row passed made) (sym e) (next-is row passed stage index (some (passed + 1) (omega arith) (omega arith)) stands))
+    → Placed file tasks (nextPlace (rowAt file (passed + 1)) passed stage index)
+next-placed file tasks passed stage index some h stands =
+    go (nextPlace row passed stage index) (next-is row passed stage index (some (passed + 1) (omega arith) (omega arith)) stands)
   where
     row : List ℕ
     row = rowAt file (passed + 1)
@@ -379,7 +381,6 @@ next-stands file tasks passed stage index some h stands next e =
     made : ℕ
     made = madeAt (taskOf row) stage index
 
-    go : (next : List ℕ) → Next row passed made next → getD next 0 0 < tasks
-        → Stands (rowAt file (getD next 0 0 + 1)) (getD next 1 0) (getD next 2 0)
-    go next (within s i there is) left = there
-    go next (beyond is) left = some (passed + 1 + 1) (omega arith) (omega arith)
+    go : (next : List ℕ) → Next row passed made next → Placed file tasks next
+    go next (within s i there is) = record { starts = refl; stands = λ left. there }
+    go next (beyond is) = begun file tasks (passed + 1) some

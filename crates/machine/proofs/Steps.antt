@@ -21,8 +21,8 @@ use Rattle.steps.specs.Step.{Try, waitWrite, waitReads, operate, endRead, zeroR
 use Rattle.machine.specs.declared.Outcome as Code
 use Rattle.machine.specs.declared.Outcome.the-variants.{Advanced, PastLast, WriteDiffers, ReadsDiffer}
 use Rattle.machine.specs.Outcomes.{outcomeOf}
-use Rattle.machine.specs.Arrays.{Arrays, arrays, machineOf, placeOf, tryAt, Stands, nextPlace, madeIn, madeAt, notedAll, Shape, RowFits, Ready, Standing, Steppable, settingIn, passedAt, stageAt, indexAt, movesOn, goesTo, placesAfter, OwnStep, StepDone}
-use Rattle.machine.proofs.Places.{access-count, access-there, try-there, next-there, next-stands, none-made}
+use Rattle.machine.specs.Arrays.{Arrays, arrays, machineOf, numbersOf, placeOf, tryAt, Stands, nextPlace, madeIn, madeAt, notedAll, Shape, RowFits, Ready, Placed, Standing, Steppable, settingIn, passedAt, stageAt, indexAt, movesOn, goesTo, placesAfter, OwnStep, StepDone}
+use Rattle.machine.proofs.Places.{access-count, access-there, try-there, next-there, begun, next-placed, none-made}
 use Rattle.machine.proofs.Machines.{stored-at, all-noted-only, row-replaced, place-stored, outcome-of, change-of}
 use Rattle.machine.proofs.Changes.{ChangedBy}
 use Rattle.machine.proofs.Outcome.{the-type}
@@ -114,17 +114,14 @@ module _ (row : List ℕ) (w : ℕ) (kept : Arrays) where
 
 -- a worker that stands somewhere else leaves the others where they stand
 standing-kept : (file : List ℕ) (tasks : ℕ) (places : List (List ℕ)) (w : ℕ) (next : List ℕ) → Standing file tasks places → w < length places
-    → (getD next 0 0 < tasks → Stands (rowAt file (getD next 0 0 + 1)) (getD next 1 0) (getD next 2 0))
+    → Placed file tasks next
     → Standing file tasks (set places w next)
-standing-kept file tasks places w next standing h stands =
-    record { stands = λ v l. subst Rests (sym (stored-at places w next [] v h)) (go v l (eqb v w)) }
+standing-kept file tasks places w next standing h placed =
+    record { placed = λ v l. subst (Placed file tasks) (sym (stored-at places w next [] v h)) (go v l (eqb v w)) }
   where
-    Rests : List ℕ → Type 0
-    Rests numbers = getD numbers 0 0 < tasks → Stands (rowAt file (getD numbers 0 0 + 1)) (getD numbers 1 0) (getD numbers 2 0)
-
-    go : (v : ℕ) → v < mostWorkers → (same : Bool) → Rests (cond same next (getD places v []))
-    go v l true = stands
-    go v l false = standing .stands v l
+    go : (v : ℕ) → v < mostWorkers → (same : Bool) → Placed file tasks (cond same next (getD places v []))
+    go v l true = placed
+    go v l false = standing .placed v l
 
 module _ (file : List ℕ) (tasks w : ℕ) (kept : Arrays) (sound : Steppable file tasks kept) (h : w < mostWorkers) where
   abbrev passed : ℕ
@@ -157,13 +154,16 @@ module _ (file : List ℕ) (tasks w : ℕ) (kept : Arrays) (sound : Steppable fi
     fits = sound .ready .rows (passed + 1) (omega arith) (omega arith)
 
     stands : Stands row (stageAt kept w) (indexAt kept w)
-    stands = sound .standing .stands w h l
+    stands = sound .standing .placed w h .stands l
+
+    some : (task : ℕ) → 1 ≤ task → task ≤ tasks → 1 ≤ getD (rowAt file task) 1 0
+    some task low high = sound .ready .rows task low high .some-access
 
     -- where the worker moves on to, by whether it owns the task
     goes-to : (isOwner : Bool) → eqb (getD row 0 0) w ≡ isOwner
-        → cond isOwner (nextPlace row passed (stageAt kept w) (indexAt kept w)) ((passed + 1) ∷ 0 ∷ 0 ∷ []) ≡ goesTo file kept w
+        → cond isOwner (nextPlace row passed (stageAt kept w) (indexAt kept w)) (numbersOf (passed + 1) 0 0) ≡ goesTo file kept w
     goes-to isOwner t =
-        ap (λ (b : Bool). cond b (nextPlace row passed (stageAt kept w) (indexAt kept w)) ((passed + 1) ∷ 0 ∷ 0 ∷ [])) (sym t)
+        ap (λ (b : Bool). cond b (nextPlace row passed (stageAt kept w) (indexAt kept w)) (numbersOf (passed + 1) 0 0)) (sym t)
 
     -- the step at the task there, by whether the worker owns it
     step-at : (isOwner : Bool) → eqb (getD row 0 0) w ≡ isOwner
@@ -182,15 +182,14 @@ module _ (file : List ℕ) (tasks w : ℕ) (kept : Arrays) (sound : Steppable fi
         t
 
     -- a task of another owner
-    pub step-other : (private′ : List (List (List ℕ))) → (getD row 0 0 ≡ w → ⊥)
+    pub step-other : (private′ : List (List (List ℕ))) (next : List ℕ) → (getD row 0 0 ≡ w → ⊥)
         → private′ ≡ notedAll (kept .private) w (passed + 1) (taskOf row .accesses)
-        → StepDone file tasks w kept advanced (arrays (kept .cells) (kept .shared) private′ (set (kept .places) w ((passed + 1) ∷ 0 ∷ 0 ∷ [])))
-    unfolding Stands
-    step-other private′ other is =
+        → next ≡ numbersOf (passed + 1) 0 0
+        → StepDone file tasks w kept advanced (arrays (kept .cells) (kept .shared) private′ (set (kept .places) w next))
+    step-other private′ next other is next-is =
         let all = tasksIn file tasks in
         let accesses = taskOf row .accesses in
         let noted-in = notedAll (kept .private) w (passed + 1) accesses in
-        let next = (passed + 1) ∷ 0 ∷ 0 ∷ [] in
         let row′ = registerAll (passed + 1) accesses (m .private w) in
         let only = all-noted-only (kept .shared) w (passed + 1) h (kept .private) accesses counted (sound .shape) in
         record {
@@ -201,14 +200,15 @@ module _ (file : List ℕ) (tasks w : ℕ) (kept : Arrays) (sound : Steppable fi
                 places-size = length-set (kept .places) w next ∙ sound .places-size;
                 standing =
                     standing-kept file tasks (kept .places) w next (sound .standing) has-place
-                    (λ more. sound .ready .rows (passed + 1 + 1) (omega arith) (omega arith) .some-access);
+                    (subst (Placed file tasks) (sym next-is) (begun file tasks (passed + 1) some));
               };
-          places-are = ap (set (kept .places) w) (goes-to false (ne-eqb (getD row 0 0) w other));
+          places-are = ap (set (kept .places) w) (next-is ∙ goes-to false (ne-eqb (getD row 0 0) w other));
           machine-is =
               ap (stepped advanced)
               (ap (λ (p : List (List (List ℕ))). machineOf all (arrays (kept .cells) (kept .shared) p (set (kept .places) w next))) is
               ∙ place-stored all (arrays (kept .cells) (kept .shared) noted-in (kept .places)) w next has-place
               ∙ ap (λ (to : Machine). withPlace to w (placeOf all next)) (row-replaced all kept noted-in w row′ only)
+              ∙ ap (λ (to : List ℕ). withPlace (withRow m w row′) w (placeOf all to)) next-is
               ∙ ap (λ (made : ℕ). withPlace (withRow m w row′) w (place (passed + 1) made)) (none-made (drop (passed + 1) all)))
               ∙ sym (step-at false (ne-eqb (getD row 0 0) w other));
         }
@@ -259,9 +259,6 @@ module _ (file : List ℕ) (tasks w : ℕ) (kept : Arrays) (sound : Steppable fi
         made-is : m .places w .made ≡ madeAt (taskOf row) stage index
         made-is = ap (λ (left : List Task). madeIn left stage index) here
 
-        some : (task : ℕ) → 1 ≤ task → task ≤ tasks → 1 ≤ getD (rowAt file task) 1 0
-        some task low high = sound .ready .rows task low high .some-access
-
         Stand : List (List ℕ) → Type 0
         Stand to = (length to ≡ mostWorkers) × Standing file tasks to
 
@@ -270,5 +267,5 @@ module _ (file : List ℕ) (tasks w : ℕ) (kept : Arrays) (sound : Steppable fi
         stand true e =
             subst Stand (sym e) (
               length-set (kept .places) w next ∙ sound .places-size,
-              standing-kept file tasks (kept .places) w next (sound .standing) has-place (next-stands file tasks passed stage index some l stands next refl),
+              standing-kept file tasks (kept .places) w next (sound .standing) has-place (next-placed file tasks passed stage index some l stands),
             )

@@ -1,6 +1,6 @@
 -- What the stepped run's arrays stand for. A counter is two numbers, the last write and the reads since it; the shared counters are
--- one row, a counter for each cell, and the private counters a row for each worker. A worker's place is three numbers: the tasks
--- that it has gone past, the stage of its own task and an index.
+-- one row, a counter for each cell, and the private counters a row for each worker. A worker's place is four numbers: the tasks
+-- that it has gone past, the stage of its own task, an index, and where the row of the next task starts in the file.
 --
 --     stage 0   it waits for the last write of the access at the index
 --     stage 1   it waits for the reads of that access, a write
@@ -16,7 +16,7 @@ use lib.Dec.{eqb, ltb}
 use Rattle.layout.specs.Flow.{Access, Task, mostTasks, mostWorkers, mostCells, mostAccesses, mostOperations, mostSchedule}
 use Rattle.layout.specs.Row.{accessAt, operationAt}
 use Rattle.layout.specs.Block.{blocksFor}
-use Rattle.layout.specs.File.{rowAt, tasksIn}
+use Rattle.layout.specs.File.{rowStart, rowAt, tasksIn}
 use Rattle.steps.specs.Operations.{effect}
 use Rattle.steps.specs.Machine.{Counter, Place, Machine, counter, place, withPlace}
 use Rattle.steps.specs.Run.{settingFor}
@@ -62,7 +62,11 @@ unfoldable pub madeIn : List Task → ℕ → ℕ → ℕ
 madeIn [] stage index = 0
 madeIn (task ∷ later) stage index = madeAt task stage index
 
--- three numbers as a place, under a list of tasks
+-- the numbers of a place, by its first three: the fourth is where the row of the next task starts
+abbrev pub numbersOf : ℕ → ℕ → ℕ → List ℕ
+numbersOf passed stage index = passed ∷ stage ∷ index ∷ rowStart (passed + 1) ∷ []
+
+-- such numbers as a place, under a list of tasks
 abbrev pub placeOf : List Task → List ℕ → Place
 placeOf tasks numbers = place (getD numbers 0 0) (madeIn (drop (getD numbers 0 0) tasks) (getD numbers 1 0) (getD numbers 2 0))
 
@@ -111,20 +115,20 @@ Stands row (suc (suc (suc (suc (suc stage))))) index = ⊥
 -- the place after an own step that advances
 abbrev pub afterWait : List ℕ → ℕ → ℕ → List ℕ
 afterWait row passed index =
-    cond (ltb (index + 1) (getD row 1 0)) (passed ∷ 0 ∷ (index + 1) ∷ [])
-    (cond (ltb 0 (getD row 2 0)) (passed ∷ 2 ∷ 0 ∷ []) (passed ∷ 3 ∷ 0 ∷ []))
+    cond (ltb (index + 1) (getD row 1 0)) (numbersOf passed 0 (index + 1))
+    (cond (ltb 0 (getD row 2 0)) (numbersOf passed 2 0) (numbersOf passed 3 0))
 
 abbrev pub afterEnd : List ℕ → ℕ → ℕ → List ℕ
-afterEnd row passed index = cond (ltb (index + 1) (getD row 1 0)) (passed ∷ 3 ∷ (index + 1) ∷ []) ((passed + 1) ∷ 0 ∷ 0 ∷ [])
+afterEnd row passed index = cond (ltb (index + 1) (getD row 1 0)) (numbersOf passed 3 (index + 1)) (numbersOf (passed + 1) 0 0)
 
 -- by the stage
 unfoldable pub nextPlace : List ℕ → ℕ → ℕ → ℕ → List ℕ
-nextPlace row passed zero index = cond (writes (accessAt row index)) (passed ∷ 1 ∷ index ∷ []) (afterWait row passed index)
+nextPlace row passed zero index = cond (writes (accessAt row index)) (numbersOf passed 1 index) (afterWait row passed index)
 nextPlace row passed (suc zero) index = afterWait row passed index
 nextPlace row passed (suc (suc zero)) index =
-    cond (ltb (index + 1) (getD row 2 0)) (passed ∷ 2 ∷ (index + 1) ∷ []) (passed ∷ 3 ∷ 0 ∷ [])
+    cond (ltb (index + 1) (getD row 2 0)) (numbersOf passed 2 (index + 1)) (numbersOf passed 3 0)
 nextPlace row passed (suc (suc (suc zero))) index =
-    cond (writes (accessAt row index)) (passed ∷ 4 ∷ index ∷ []) (afterEnd row passed index)
+    cond (writes (accessAt row index)) (numbersOf passed 4 index) (afterEnd row passed index)
 nextPlace row passed (suc (suc (suc (suc stage)))) index = afterEnd row passed index
 
 -- ---- private counters, updated
@@ -168,10 +172,14 @@ pub record Ready (file : List ℕ) (tasks cells : ℕ) : Type 0 where
   pub few-tasks : tasks ≤ mostTasks
   pub rows : (task : ℕ) → 1 ≤ task → task ≤ tasks → RowFits (rowAt file task) cells
 
--- each worker that has tasks left stands somewhere in the next
+-- the numbers of a place: the fourth is where the next task's row starts, and with tasks left a worker stands somewhere in the next
+pub record Placed (file : List ℕ) (tasks : ℕ) (numbers : List ℕ) : Type 0 where
+  pub starts : getD numbers 3 0 ≡ rowStart (getD numbers 0 0 + 1)
+  pub stands : getD numbers 0 0 < tasks → Stands (rowAt file (getD numbers 0 0 + 1)) (getD numbers 1 0) (getD numbers 2 0)
+
+-- the places of all workers are such
 pub record Standing (file : List ℕ) (tasks : ℕ) (places : List (List ℕ)) : Type 0 where
-  pub stands : (w : ℕ) → w < mostWorkers → getD (getD places w []) 0 0 < tasks
-      → Stands (rowAt file (getD (getD places w []) 0 0 + 1)) (getD (getD places w []) 1 0) (getD (getD places w []) 2 0)
+  pub placed : (w : ℕ) → w < mostWorkers → Placed file tasks (getD places w [])
 
 -- the step asks that no counter has more reads than this: a step adds one for each access of a task at most, and a run has no more
 -- steps than its schedule bytes
@@ -228,7 +236,7 @@ abbrev pub goesTo : List ℕ → Arrays → ℕ → List ℕ
 goesTo file before w =
     cond (eqb (getD (rowAt file (passedAt before w + 1)) 0 0) w)
     (nextPlace (rowAt file (passedAt before w + 1)) (passedAt before w) (stageAt before w) (indexAt before w))
-    ((passedAt before w + 1) ∷ 0 ∷ 0 ∷ [])
+    (numbersOf (passedAt before w + 1) 0 0)
 
 -- the places after a step: the worker's is the next where it moves on, and all others stay
 abbrev pub placesAfter : Rules.Outcome → List (List ℕ) → ℕ → List ℕ → List (List ℕ)

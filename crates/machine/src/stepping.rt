@@ -8,6 +8,7 @@ use crate::counters::note;
 use crate::counters::register;
 use crate::effect::operate;
 use crate::place::next;
+use crate::place::next_task;
 ghost use mathlib.Core.Path.{_≡_};
 ghost use mathlib.Core.List.{[]};
 ghost use Prim.Native.Nat.{_+_, _<_};
@@ -15,7 +16,7 @@ ghost use lib.ListN.{length, getD};
 ghost use Rattle.layout.specs.Flow.{mostTasks, mostWorkers, mostCells, mostAccesses};
 ghost use Rattle.layout.specs.Row.{accessAt};
 ghost use Rattle.steps.specs.Step.{outcome};
-ghost use Rattle.layout.specs.File.{tasksIn};
+ghost use Rattle.layout.specs.File.{rowStart, tasksIn};
 ghost use Rattle.machine.specs.Arrays.{arrays, machineOf, CountersFit, Changed, tryAt, Stands, RowFits, mostReads, ReadsAtMost, Steppable, OwnStep, StepDone};
 ghost use Rattle.machine.specs.Outcomes.{outcomeOf};
 
@@ -99,16 +100,18 @@ fn own_step(
 ) -> Outcome
     requires { ⌜ RowFits (now row) (length (now cells)) × (w < mostWorkers) × (length (now places) ≡ mostWorkers) × (getD (getD (now places) w []) 0 0 < mostTasks) ⌝ }
     requires { ⌜ Stands (now row) (getD (getD (now places) w []) 1 0) (getD (getD (now places) w []) 2 0) ⌝ }
+    requires { ⌜ getD (getD (now places) w []) 3 0 ≡ rowStart (getD (getD (now places) w []) 0 0 + 1) ⌝ }
     requires { ⌜ CountersFit (now shared) (now «private») ⌝ }
     ensures { λ r. ⌜ OwnStep (now (row .entry)) w (arrays (now (cells .entry)) (now (shared .entry)) (now («private» .entry)) (now (places .entry))) (outcomeOf r) (arrays (now (cells .exit)) (now (shared .exit)) (now («private» .exit)) (now (places .exit))) ⌝ }
 {
     let passed = places[w][0];
     let stage = places[w][1];
     let index = places[w][2];
+    let from = places[w][3];
     let why = held(row, w, stage, index, shared, private);
     if let Outcome::Advanced = why {
         change(row, w, passed + 1, stage, index, cells, shared, private);
-        places[w] = next(row, passed, stage, index);
+        places[w] = next(row, passed, stage, index, from);
     }
     why
 }
@@ -131,11 +134,11 @@ pub fn step(
     if tasks <= passed {
         return Outcome::PastLast;
     }
-    let from = row::start(passed + 1);
+    let from = octets::offset(places[w][3]);
     let row = &file[from..from + 48];
     if octets::index(row[0]) != w {
         register(row, w, passed + 1, private);
-        places[w] = [passed + 1, 0, 0];
+        places[w] = next_task(passed);
         return Outcome::Advanced;
     }
     own_step(row, w, cells, shared, private, places)

@@ -10,14 +10,22 @@ ghost use Rattle.layout.specs.File.{rowStart};
 ghost use Rattle.layout.specs.Row.{accessAt, taskOf, ownerSound, countsSound, accessInRange, accessesSound, namedOnce, operationSound, operationsSound, modesSound, rowRefusal};
 ghost use Rattle.row.specs.Table.{modeIn, withMode, tableOf, keepsTable};
 
-// Where a task's row stands in a file: 48 bytes on from the row before it, and 32 more where a block ends in between. (A step waits for
-// this number, so it is worked out with one division and no remainder.)
+// The byte of a file at which a task's row starts: 48 bytes on from the row before it, and 32 more where a block ends in between. A
+// worker that goes past the last task asks for the row after it, where one more would start.
+pub fn first_byte(task: u32) -> u32
+    requires { ⌜ (1 ≤ task) × (task ≤ mostTasks + 1) ⌝ }
+    ensures { λ r. ⌜ r ≡ rowStart task ⌝ }
+{
+    let before = task - 1;
+    48 * before + 32 * (before / 10) + 16
+}
+
+// The same as an offset, of a row that a file can have.
 pub fn start(task: u32) -> usize
     requires { ⌜ (1 ≤ task) × (task ≤ mostTasks) ⌝ }
     ensures { λ r. ⌜ r ≡ rowStart task ⌝ }
 {
-    let before = task - 1;
-    octets::offset(48 * before + 32 * (before / 10) + 16)
+    octets::offset(first_byte(task))
 }
 
 // 6: the owner is below workers.

@@ -5,13 +5,17 @@ use Rattle.machine.specs.Arrays.{nextPlace}
 use Rattle.machine.proofs.place.after_operation.Statement.{statement}
 use Rattle.machine.proofs.place.after_operation.Tie as tie
 
+-- where the function starts, as seen once the number of operations is read
+abbrev start-of : tie.After-wide → tie.Start
+start-of c = c .before .before .before
+
 returns : tie.Need-returns
 unfolding nextPlace
-returns c = rw (← c .before .wide .ensures .0, lt-ltb _ _ (c .if1 .taken))
+returns c = rw (← c .before .wide .ensures .0, lt-ltb _ _ (c .if1 .taken), ← start-of (c .before) .pre .2)
 
 returns-2 : tie.Need-returns-2
 unfolding nextPlace
-returns-2 c = rw (← c .before .wide .ensures .0, le-ltb _ _ (c .if1 .left))
+returns-2 c = rw (← c .before .wide .ensures .0, le-ltb _ _ (c .if1 .left), ← start-of (c .before) .pre .2)
 
 pub after-operation-spec : {M : Type 1} → statement M
 after-operation-spec =

@@ -22,7 +22,7 @@ tested c = c .before .before
 
 -- there the index is one of an access
 few : (c : tie.Else1) → from-test c .args .index < mostAccesses
-few c = from-test c .pre .1 (c .if1 .left)
+few c = from-test c .pre .1 .0 (c .if1 .left)
 
 is-write-requires : tie.Need-is-write-requires
 is-write-requires c κs = omega (arith, few (c .before))
@@ -46,7 +46,9 @@ asked c = rw (c .before .offset .ensures) at (sym (c .is-write .ensures))
 
 returns-2 : tie.Need-returns-2
 unfolding nextPlace
-returns-2 c = rw (c .before .match .keys1, asked (c .before .before), c .if2 .taken)
+returns-2 c =
+    let read = c .before .before in
+    rw (c .before .match .keys1, asked read, c .if2 .taken, ← from-test (tested read) .pre .1 .1)
 
 returns-3 : tie.Need-returns-3
 unfolding nextPlace
@@ -59,7 +61,9 @@ returns-4 c = rw (c .before .match .keys2) (c .after-wait2 .ensures)
 
 returns-5 : tie.Need-returns-5
 unfolding nextPlace
-returns-5 c = rw (c .before .match .keys3, asked (c .before .before), c .if3 .taken)
+returns-5 c =
+    let read = c .before .before in
+    rw (c .before .match .keys3, asked read, c .if3 .taken, ← from-test (tested read) .pre .1 .1)
 
 returns-6 : tie.Need-returns-6
 unfolding nextPlace

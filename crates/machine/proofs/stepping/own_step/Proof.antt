@@ -19,8 +19,8 @@ abbrev lent : tie.Start → Arrays
 lent start = arrays (start .args .cells .now) (start .args .shared .now) (start .args .private .now) (start .args .places .now)
 
 -- where the function starts, as seen once the place is read, and once it is known whether the step is held
-abbrev from-place : tie.After-index → tie.Start
-from-place c = c .before .before .before .before .before
+abbrev from-place : tie.After-from → tie.Start
+from-place c = c .before .before .before .before .before .before
 
 abbrev from-held : tie.After-held → tie.Start
 from-held c = from-place (c .before .before .before)
@@ -65,7 +65,7 @@ next-requires c κs =
         five-stages (a .row .now) (stageAt kept (a .w)) (indexAt kept (a .w)) stands,
         small-index (a .row .now) (length (a .cells .now)) (stageAt kept (a .w)) (indexAt kept (a .w)) fits stands,
       ),
-      λ other. access-at start other .0,
+      (λ other. access-at start other .0, start .pre .1 .1 .0),
     )
 
 returns : tie.Need-returns
@@ -94,7 +94,7 @@ returns-2 c =
     let start = from-held (c .before) in
     let a = start .args in
     let held = c .before .held in
-    own-step-held (a .row .now) (a .w) (lent start) (outcomeOf (held .result)) (start .pre .1 .1 .0) (held .ensures)
+    own-step-held (a .row .now) (a .w) (lent start) (outcomeOf (held .result)) (start .pre .1 .1 .1 .0) (held .ensures)
     (stays (held .result) (c .match .keys2))
 
 pub own-step-spec : {M : Type 1} → statement M
@@ -102,6 +102,6 @@ own-step-spec =
     tie.close
     (tie.spec
     (λ c. search needs) (λ c. search needs) (λ c. search needs) (λ c. search needs) (λ c. search needs)
-    (λ c. search needs) (λ c. search needs) (λ c. search needs) (λ c. search needs) held-requires enum-told
-    (λ c. search needs) (λ c κs. search needs) next-requires (λ c. search needs) (λ c. search needs)
-    (λ c. search needs) returns returns-2)
+    (λ c. search needs) (λ c. search needs) (λ c. search needs) (λ c. search needs) (λ c. search needs)
+    (λ c. search needs) (λ c. search needs) held-requires enum-told (λ c. search needs) (λ c κs. search needs)
+    next-requires (λ c. search needs) (λ c. search needs) (λ c. search needs) returns returns-2)
