@@ -1,10 +1,3 @@
--- Laws of the machine that the arrays stand for, which the proofs of the code cite; that an accepted file is ready for a step; and that
--- a step's contract allows one outcome only.
-pub mod Places
-pub mod Machines
-pub mod Changes
-pub mod Rows
+-- That a step of the code is a step of the rules, which the proofs of the code cite; and that a step's contract allows one outcome only.
 pub mod Steps
-pub mod Growth
-pub mod Accepted
 pub mod Unique

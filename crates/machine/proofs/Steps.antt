@@ -18,13 +18,13 @@ use Rattle.layout.proofs.Modes.{each-drop, each-drop-all}
 use Rattle.steps.specs.Operations.{Effect, effect}
 use Rattle.steps.specs.Machine.{Place, Machine, place, withRow, withPlace}
 use Rattle.steps.specs.Step.{Try, waitWrite, waitReads, operate, endRead, zeroReads, postWrite, Outcome, advanced, pastLast, writeDiffers, readsDiffer, outcome, registerAll, change, ownSteps, moved, stepped, attempted, ownStep, otherStep, stepFrom, step}
+use Rattle.arrays.specs.Arrays.{Arrays, arrays, machineOf, numbersOf, placeOf, tryAt, Stands, nextPlace, madeIn, madeAt, notedAll, Shape, RowFits, Ready, Placed, Standing, Steppable, settingIn, passedAt, stageAt, indexAt, movesOn, goesTo, placesAfter, OwnStep, StepDone}
+use Rattle.arrays.proofs.Places.{access-count, access-there, try-there, next-there, begun, next-placed, none-made}
+use Rattle.arrays.proofs.Machines.{stored-at, all-noted-only, row-replaced, place-stored, outcome-of, change-of}
+use Rattle.arrays.proofs.Changes.{ChangedBy}
 use Rattle.machine.specs.declared.Outcome as Code
 use Rattle.machine.specs.declared.Outcome.the-variants.{Advanced, PastLast, WriteDiffers, ReadsDiffer}
 use Rattle.machine.specs.Outcomes.{outcomeOf}
-use Rattle.machine.specs.Arrays.{Arrays, arrays, machineOf, numbersOf, placeOf, tryAt, Stands, nextPlace, madeIn, madeAt, notedAll, Shape, RowFits, Ready, Placed, Standing, Steppable, settingIn, passedAt, stageAt, indexAt, movesOn, goesTo, placesAfter, OwnStep, StepDone}
-use Rattle.machine.proofs.Places.{access-count, access-there, try-there, next-there, begun, next-placed, none-made}
-use Rattle.machine.proofs.Machines.{stored-at, all-noted-only, row-replaced, place-stored, outcome-of, change-of}
-use Rattle.machine.proofs.Changes.{ChangedBy}
 use Rattle.machine.proofs.Outcome.{the-type}
 
 -- ---- an own step

@@ -11,10 +11,10 @@ use Rattle.layout.specs.File.{tasksIn}
 use Rattle.steps.specs.Machine.{Counter, Machine}
 use Rattle.steps.specs.Step as Rules
 use Rattle.steps.specs.Step.{Stepped, stepped, advanced, pastLast, writeDiffers, readsDiffer}
+use Rattle.arrays.specs.Arrays.{counterOf, counterAt, Arrays, arrays, machineOf, Changed, placesAfter, OwnStep, StepDone}
 use Rattle.machine.specs.declared.Outcome.{Outcome}
 use Rattle.machine.specs.declared.Outcome.the-variants.{Advanced, PastLast, WriteDiffers, ReadsDiffer}
 use Rattle.machine.specs.Outcomes.{outcomeOf}
-use Rattle.machine.specs.Arrays.{counterOf, counterAt, Arrays, arrays, machineOf, Changed, placesAfter, OwnStep, StepDone}
 
 -- ---- the answer
 

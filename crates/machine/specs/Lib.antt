@@ -1,3 +1,2 @@
--- What the stepped run's arrays and outcomes stand for.
-pub mod Arrays
+-- What the outcomes of a step stand for.
 pub mod Outcomes

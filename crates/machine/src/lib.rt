@@ -1,27 +1,5 @@
-// One step of the stepped run, over arrays that the run lends: the shared counters, a private row of counters for each worker, and
-// each worker's place.
-pub mod counters;
-pub mod effect;
-mod place;
+// One step of the stepped run, over arrays that the run lends.
 pub mod stepping;
-
-use flow::Flow;
-
-// The last write and the reads since it.
-pub type Counter = [u32; 2];
-
-// A row of counters, one for each cell; and such a row for each worker.
-pub type Counters = [Counter; Flow::ROOM_FOR_CELLS];
-
-pub type AllCounters = [Counters; Flow::ROOM_FOR_WORKERS];
-
-// A worker's place: the tasks gone past, the stage of the next task, the index of an access or an operation, and the byte of the file
-// at which the next task's row starts, so that a step need not work it out. And such a place for each worker. At stage 0 the worker
-// waits for the access's last write, at 1 for its reads, at 2 it makes the operation, at 3 it ends the access (of a write, it sets the
-// shared reads to 0), and at 4 it posts the write.
-pub type Place = [u32; 4];
-
-pub type Places = [Place; Flow::ROOM_FOR_WORKERS];
 
 // What became of a step: it advanced, or it was held and why.
 pub enum Outcome {

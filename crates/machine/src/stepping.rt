@@ -1,14 +1,14 @@
 // One step of a named worker: whether it is held, what it changes, and its next place.
-use crate::AllCounters;
-use crate::Counters;
 use crate::Outcome;
-use crate::Places;
-use crate::counters::is_write;
-use crate::counters::note;
-use crate::counters::register;
-use crate::effect::operate;
-use crate::place::next;
-use crate::place::next_task;
+use arrays::AllCounters;
+use arrays::Counters;
+use arrays::Places;
+use counters::is_write;
+use counters::note;
+use counters::register;
+use effect::operate;
+use places::next;
+use places::next_task;
 ghost use mathlib.Core.Path.{_≡_};
 ghost use mathlib.Core.List.{[]};
 ghost use Prim.Native.Nat.{_+_, _<_};
@@ -17,7 +17,7 @@ ghost use Rattle.layout.specs.Flow.{mostTasks, mostWorkers, mostCells, mostAcce
 ghost use Rattle.layout.specs.Row.{accessAt};
 ghost use Rattle.steps.specs.Step.{outcome};
 ghost use Rattle.layout.specs.File.{rowStart, tasksIn};
-ghost use Rattle.machine.specs.Arrays.{arrays, machineOf, CountersFit, Changed, tryAt, Stands, RowFits, mostReads, ReadsAtMost, Steppable, OwnStep, StepDone};
+ghost use Rattle.arrays.specs.Arrays.{arrays, machineOf, CountersFit, Changed, tryAt, Stands, RowFits, mostReads, ReadsAtMost, Steppable, OwnStep, StepDone};
 ghost use Rattle.machine.specs.Outcomes.{outcomeOf};
 
 // Whether the own step at a stage and an index is held, and why.

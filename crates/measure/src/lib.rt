@@ -10,7 +10,7 @@ ghost use Rattle.layout.specs.Flow.{mostWorkers, mostAccesses};
 ghost use Rattle.layout.specs.Row.{taskOf};
 ghost use Rattle.layout.specs.File.{tasksIn};
 ghost use Rattle.steps.specs.Run.{accessSteps, totalOf, mostOfTask};
-ghost use Rattle.machine.specs.Arrays.{Ready};
+ghost use Rattle.arrays.specs.Arrays.{Ready};
 ghost use Rattle.measure.specs.Promises.{MeasurePromise};
 
 // What is measured: a refusal, or the flow's sizes and its total.
@@ -37,7 +37,7 @@ fn access_steps(row: &[u8]) -> u32
         if j == count {
             return steps;
         }
-        if machine::counters::is_write(row, j) {
+        if counters::is_write(row, j) {
             steps += 4;
         } else {
             steps += 2;

@@ -10,8 +10,8 @@ ghost use Rattle.layout.specs.File.{rowStart};
 ghost use Rattle.layout.specs.Row.{accessAt, taskOf, ownerSound, countsSound, accessInRange, accessesSound, namedOnce, operationSound, operationsSound, modesSound, rowRefusal};
 ghost use Rattle.row.specs.Table.{modeIn, withMode, tableOf, keepsTable};
 
-// The byte of a file at which a task's row starts: 48 bytes on from the row before it, and 32 more where a block ends in between. A
-// worker that goes past the last task asks for the row after it, where one more would start.
+// The byte of a file at which a task's row starts: 48 bytes on from the row before it, and 32 more where a block ends in between. It is
+// worked out with one division and no remainder. A worker that goes past the last task asks where one more row would start.
 pub fn first_byte(task: u32) -> u32
     requires { ⌜ (1 ≤ task) × (task ≤ mostTasks + 1) ⌝ }
     ensures { λ r. ⌜ r ≡ rowStart task ⌝ }

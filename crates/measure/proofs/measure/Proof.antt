@@ -6,7 +6,7 @@ use Rattle.layout.specs.File.{fileAnswer}
 use Rattle.file.specs.declared.Answer.{Answer}
 use Rattle.file.specs.Promises.{CheckPromise}
 use Rattle.file.proofs.Outcomes.{checkAll, check-refused, some-block, check-done, cells-are, within}
-use Rattle.machine.proofs.Accepted.{ready}
+use Rattle.arrays.proofs.Accepted.{ready}
 use Rattle.measure.proofs.Measuring.{measure-refused, measure-done}
 use Rattle.measure.proofs.measure.Statement.{statement}
 use Rattle.measure.proofs.measure.Tie as tie

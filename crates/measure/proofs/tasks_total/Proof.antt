@@ -7,7 +7,7 @@ use lib.ListN.{drop}
 use Rattle.layout.specs.Row.{taskOf}
 use Rattle.layout.specs.File.{rowAt, tasksIn}
 use Rattle.steps.specs.Run.{totalOf, mostOfTask}
-use Rattle.machine.proofs.Rows.{row-there, row-fits}
+use Rattle.arrays.proofs.Rows.{row-there, row-fits}
 use Rattle.measure.proofs.Sums.{row-counts, task-next, task-end}
 use Rattle.measure.proofs.tasks_total.Statement.{statement}
 use Rattle.measure.proofs.tasks_total.Tie as tie

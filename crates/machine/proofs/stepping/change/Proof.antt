@@ -9,8 +9,8 @@ use Rattle.layout.specs.Flow.{mostCells}
 use Rattle.layout.specs.Row.{accessAt, operationAt}
 use Rattle.steps.specs.Operations.{effect, operated}
 use Rattle.steps.specs.Step.{writes}
-use Rattle.machine.specs.Arrays.{Arrays, arrays}
-use Rattle.machine.proofs.Changes.{five-stages, at-operation, at-access, waited, made, AtAccess, posted, zeroed, ended}
+use Rattle.arrays.specs.Arrays.{Arrays, arrays}
+use Rattle.arrays.proofs.Changes.{five-stages, at-operation, at-access, waited, made, AtAccess, posted, zeroed, ended}
 use Rattle.machine.proofs.stepping.change.Statement.{statement}
 use Rattle.machine.proofs.stepping.change.Tie as tie
 

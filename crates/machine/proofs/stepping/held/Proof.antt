@@ -11,7 +11,7 @@ use Rattle.layout.specs.Flow.{mostCells, mostAccesses}
 use Rattle.layout.specs.Row.{accessAt}
 use Rattle.steps.specs.Machine.{Machine}
 use Rattle.steps.specs.Step.{advanced, outcome, endRead, zeroReads, writes}
-use Rattle.machine.specs.Arrays.{tryAt}
+use Rattle.arrays.specs.Arrays.{tryAt}
 use Rattle.machine.proofs.stepping.held.Statement.{statement}
 use Rattle.machine.proofs.stepping.held.Tie as tie
 

@@ -7,9 +7,9 @@ use borrow.Author.Needs.{needs}
 use lib.ListN.{length}
 use Rattle.layout.specs.Flow.{mostCells, mostAccesses}
 use Rattle.layout.specs.Row.{accessAt}
-use Rattle.machine.specs.Arrays.{Arrays, arrays, stageAt, indexAt}
+use Rattle.arrays.specs.Arrays.{Arrays, arrays, stageAt, indexAt}
+use Rattle.arrays.proofs.Changes.{five-stages, small-access, small-index}
 use Rattle.machine.specs.Outcomes.{outcomeOf}
-use Rattle.machine.proofs.Changes.{five-stages, small-access, small-index}
 use Rattle.machine.proofs.Steps.{stays, own-step-made, own-step-held}
 use Rattle.machine.proofs.stepping.own_step.Statement.{statement}
 use Rattle.machine.proofs.stepping.own_step.Tie as tie
@@ -18,9 +18,12 @@ use Rattle.machine.proofs.stepping.own_step.Tie as tie
 abbrev lent : tie.Start → Arrays
 lent start = arrays (start .args .cells .now) (start .args .shared .now) (start .args .private .now) (start .args .places .now)
 
--- where the function starts, as seen once the place is read, and once it is known whether the step is held
+-- where the function starts, as seen once the index is read, once the whole place is, and once it is known whether the step is held
+abbrev from-index : tie.After-index → tie.Start
+from-index c = c .before .before .before .before .before
+
 abbrev from-place : tie.After-from → tie.Start
-from-place c = c .before .before .before .before .before .before
+from-place c = from-index (c .before)
 
 abbrev from-held : tie.After-held → tie.Start
 from-held c = from-place (c .before .before .before)

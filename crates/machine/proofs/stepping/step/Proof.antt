@@ -9,7 +9,7 @@ use lib.ListN.{length, getD}
 use Rattle.layout.specs.Bytes.{part}
 use Rattle.layout.specs.Row.{taskOf}
 use Rattle.layout.specs.File.{rowStart, rowAt}
-use Rattle.machine.specs.Arrays.{Arrays, arrays, passedAt, notedAll, RowFits, OwnStep}
+use Rattle.arrays.specs.Arrays.{Arrays, arrays, passedAt, notedAll, RowFits, OwnStep}
 use Rattle.machine.specs.Outcomes.{outcomeOf}
 use Rattle.machine.proofs.Steps.{step-past, step-other, step-own}
 use Rattle.machine.proofs.stepping.step.Statement.{statement}

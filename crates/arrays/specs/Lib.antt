@@ -1,0 +1,2 @@
+-- What the stepped run's arrays stand for.
+pub mod Arrays
