@@ -14,7 +14,7 @@ use Rattle.layout.specs.File.{rowStart, rowAt, tasksIn}
 use Rattle.layout.proofs.Modes.{each-drop, each-drop-all}
 use Rattle.steps.specs.Machine.{Place}
 use Rattle.steps.specs.Run.{isDone, doneFrom}
-use Rattle.machine.specs.Arrays.{placeOf, Ready}
+use Rattle.arrays.specs.Arrays.{placeOf, Ready}
 
 -- the owner stands first in the row
 pub owner-read : (file : List ℕ) (tasks cells index from w : ℕ) → Ready file tasks cells → index < tasks → from ≡ rowStart (index + 1)

@@ -1,6 +1,8 @@
 -- Laws that the proofs of the runs cite.
 pub mod Demand
 pub mod Done
+pub mod Held
+pub mod Noted
 pub mod OneByOne
 pub mod Outcomes
 pub mod Finished

@@ -10,8 +10,8 @@ use Rattle.layout.specs.Lists.{each}
 use Rattle.layout.proofs.Modes.{each-drop, each-drop-all}
 use Rattle.layout.specs.Row.{operationAt}
 use Rattle.layout.specs.File.{rowStart}
-use Rattle.machine.specs.Arrays.{RowFits, Ready}
-use Rattle.machine.proofs.Rows.{row-fits as fits-there}
+use Rattle.arrays.specs.Arrays.{RowFits, Ready}
+use Rattle.arrays.proofs.Rows.{row-fits as fits-there}
 use Rattle.steps.specs.Operations.{Effect, operated}
 use Rattle.steps.specs.Plain.{afterOperations, afterTasks}
 

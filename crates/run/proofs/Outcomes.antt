@@ -9,6 +9,7 @@ use native.Mathlib.Omega.{arith}
 use borrow.Author.Tests.{ltb-true, le-leb, lt-leb, eq-eqb, ne-eqb}
 use lib.ListN.{length, getD}
 use lib.Dec.{eqb, leb, ltb}
+use Rattle.layout.specs.Lists.{each}
 use Rattle.layout.specs.Flow.{Task, Flow, mostSchedule}
 use Rattle.layout.specs.Refusal as Rules
 use Rattle.layout.specs.Refusal.{success, refusal, unless, orElse, firstAt}
@@ -18,7 +19,8 @@ use Rattle.roundtrip.proofs.Accepted.{flow-sound}
 use Rattle.steps.specs.Operations.{effect}
 use Rattle.steps.specs.Plain.{afterTasks}
 use Rattle.steps.specs.Run.{Run, Names, settingOf, total}
-use Rattle.steps.specs.Answers.{plainAnswer, plainCells, runAnswer, ran, toldOf, runTold, runCells}
+use Rattle.steps.specs.Held.{Named, namedBy}
+use Rattle.steps.specs.Answers.{plainAnswer, plainCells, runAnswer, ran, toldOf, runTold, heldOf, runHeld, runCells}
 use Rattle.steps.proofs.Total.{total-bound}
 use Rattle.file.specs.declared.Answer.{Answer}
 use Rattle.file.specs.declared.CheckAnswer.{CheckAnswer}
@@ -73,18 +75,23 @@ module _ {file : List ℕ} {met : CheckAnswer} (promised : CheckPromise file met
 
 -- ---- the stepped run
 
-run-zeros : (met : Rules.Answer) (flow : Flow) (after : Run) → (met .number ≡ 0 → ⊥) → runRefused met ≡ runIs (toldOf met flow after)
-run-zeros met flow after some = rw (ne-eqb (met .number) 0 some)
+run-zeros : (met : Rules.Answer) (flow : Flow) (after : Run) (steps : List Named) → (met .number ≡ 0 → ⊥)
+    → runRefused met ≡ runIs (toldOf met flow after) (heldOf met steps)
+unfolding each
+run-zeros met flow after steps some = rw (ne-eqb (met .number) 0 some)
 
 pub run-refused : (file cells schedule : List ℕ) (met : Rules.Answer) (r : RunAnswer) → (met .number ≡ 0 → ⊥)
     → met ≡ runAnswer file cells schedule
     → r ≡ runRefused met
     → RunPromise file cells schedule r cells
-unfolding runTold runCells
+unfolding runTold runHeld runCells
 run-refused file cells schedule met r some e is =
     let after : Run = ran file cells schedule in
+    let steps : List Named = namedBy (settingOf (flowOf file)) cells schedule in
     record {
-      answer = is ∙ run-zeros met (flowOf file) after some ∙ ap (λ (a : Rules.Answer). runIs (toldOf a (flowOf file) after)) e;
+      answer =
+          is ∙ run-zeros met (flowOf file) after steps some
+          ∙ ap (λ (a : Rules.Answer). runIs (toldOf a (flowOf file) after) (heldOf a steps)) e;
       cells-after =
           sym (ap (λ (b : Bool). cond b (after .machine .cells) cells) (ne-eqb (met .number) 0 some))
           ∙ ap (λ (a : Rules.Answer). cond (eqb (a .number) 0) (after .machine .cells) cells) e;
@@ -148,14 +155,17 @@ module _ {file : List ℕ} {met : CheckAnswer} (promised : CheckPromise file met
 
       pub run-done : (r : RunAnswer) (after : List ℕ) → Walked (tasksIn file (met .tasks)) (met .workers) cells schedule r after
           → RunPromise file cells schedule r after
-      unfolding runTold runCells
+      unfolding runTold runHeld runCells
       run-done r after steps =
           let flow : Flow = flowOf file in
+          let all-named : List Named = namedBy (settingOf flow) cells schedule in
           let walked : Walked (flow .tasks) (flow .workers) cells schedule r after =
           subst (λ (workers : ℕ). Walked (flow .tasks) workers cells schedule r after) (workers-held promised none)
           (subst (λ (tasks : List Task). Walked tasks (met .workers) cells schedule r after) (tasks-held promised none) steps) in
           record {
-            answer = walked .answer ∙ ap (λ (a : Rules.Answer). runIs (toldOf a flow (ran file cells schedule))) succeeds;
+            answer =
+                walked .answer
+                ∙ ap (λ (a : Rules.Answer). runIs (toldOf a flow (ran file cells schedule)) (heldOf a all-named)) succeeds;
             cells-after =
                 walked .cells-after
                 ∙ ap (λ (a : Rules.Answer). cond (eqb (a .number) 0) (ran file cells schedule .machine .cells) cells) succeeds;

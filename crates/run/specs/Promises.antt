@@ -3,11 +3,14 @@ use mathlib.Core.Path.{_≡_}
 use mathlib.Core.Bool.{cond}
 use mathlib.Core.List.{List}
 use Prim.Native.Nat.{ℕ, _≤_}
+use lib.ListN.{replicate}
 use Rattle.layout.specs.Refusal as Rules
-use Rattle.layout.specs.Flow.{Task}
+use Rattle.layout.specs.Refusal.{success}
+use Rattle.layout.specs.Flow.{Task, mostWorkers}
 use Rattle.layout.specs.File.{flowOf}
 use Rattle.steps.specs.Run.{settingFor, run, doneTasks, finished, total}
-use Rattle.steps.specs.Answers.{Told, plainAnswer, plainCells, runTold, runCells}
+use Rattle.steps.specs.Held.{namedBy}
+use Rattle.steps.specs.Answers.{Told, plainAnswer, plainCells, runTold, HeldTold, heldOf, runHeld, runCells}
 use Rattle.run.specs.declared.PlainAnswer.{PlainAnswer}
 use Rattle.run.specs.declared.RunAnswer.{RunAnswer}
 
@@ -15,9 +18,9 @@ use Rattle.run.specs.declared.RunAnswer.{RunAnswer}
 abbrev pub plainIs : Rules.Answer → PlainAnswer
 plainIs met = record { number = met .number; place = met .place }
 
--- the stepped run's answer, field by field
-abbrev pub runIs : Told → RunAnswer
-runIs told =
+-- the stepped run's answer, field by field: what 01 tells of a run, and why its steps were held (02, Q-1)
+abbrev pub runIs : Told → HeldTold → RunAnswer
+runIs told why =
     record {
       number = told .number;
       place = told .place;
@@ -25,11 +28,29 @@ runIs told =
       held = told .held;
       done = told .done;
       finished = told .finished;
+      «past_last» = why .past-last;
+      «write_differs» = why .write-differs;
+      «reads_differ» = why .reads-differ;
+      reasons = why .reasons;
+      cells = why .cells;
     }
 
--- a refusal, with zero counts and not finished
+-- a refusal, with zero counts, not finished, and no held step
 abbrev pub runRefused : Rules.Answer → RunAnswer
-runRefused met = record { number = met .number; place = met .place; advanced = 0; held = 0; done = 0; finished = 0 }
+runRefused met =
+    record {
+      number = met .number;
+      place = met .place;
+      advanced = 0;
+      held = 0;
+      done = 0;
+      finished = 0;
+      «past_last» = 0;
+      «write_differs» = 0;
+      «reads_differ» = 0;
+      reasons = replicate mostWorkers 0;
+      cells = replicate mostWorkers 0;
+    }
 
 -- the contract of the plain run
 pub record PlainPromise (file cells : List ℕ) (r : PlainAnswer) (after : List ℕ) : Type 0 where
@@ -38,19 +59,21 @@ pub record PlainPromise (file cells : List ℕ) (r : PlainAnswer) (after : List 
 
 -- the contract of the stepped run
 pub record RunPromise (file cells schedule : List ℕ) (r : RunAnswer) (after : List ℕ) : Type 0 where
-  pub answer : r ≡ runIs (runTold file cells schedule)
+  pub answer : r ≡ runIs (runTold file cells schedule) (runHeld file cells schedule)
   pub cells-after : after ≡ runCells file cells schedule
   pub bounded : r .advanced ≤ total (flowOf file)
 
 -- what the steps of an accepted schedule give, from a fresh start
 pub record Walked (tasks : List Task) (workers : ℕ) (cells schedule : List ℕ) (r : RunAnswer) (after : List ℕ) : Type 0 where
   pub answer : r
-      ≡ record {
+      ≡ runIs
+      (record {
         number = 0;
         place = 0;
         advanced = run (settingFor tasks) cells schedule .advanced;
         held = run (settingFor tasks) cells schedule .held;
         done = doneTasks tasks (run (settingFor tasks) cells schedule .machine);
         finished = cond (finished workers tasks (run (settingFor tasks) cells schedule .machine)) 1 0;
-      }
+      })
+      (heldOf success (namedBy (settingFor tasks) cells schedule))
   pub cells-after : after ≡ run (settingFor tasks) cells schedule .machine .cells

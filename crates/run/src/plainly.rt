@@ -6,7 +6,7 @@ ghost use Rattle.layout.specs.Row.{taskOf};
 ghost use Rattle.steps.specs.Operations.{effect};
 ghost use Rattle.steps.specs.Plain.{afterOperations, afterTasks};
 ghost use Rattle.layout.specs.File.{tasksIn};
-ghost use Rattle.machine.specs.Arrays.{RowFits, Ready};
+ghost use Rattle.arrays.specs.Arrays.{RowFits, Ready};
 ghost use Rattle.run.specs.Promises.{PlainPromise};
 
 // The operations of one task.
@@ -17,7 +17,7 @@ fn plain_task(row: &[u8], cells: &mut [u32])
     let count = octets::index(row[2]);
     let mut i = 0;
     while i < count {
-        machine::effect::operate(row, i, cells);
+        effect::operate(row, i, cells);
         i += 1;
     }
 }

@@ -1,10 +1,10 @@
 // The stepped run: the schedule's bytes, one after another, each name a worker that takes a step.
 use crate::RunAnswer;
+use crate::noting::note;
 use crate::telling::all_past;
 use crate::telling::done_tasks;
 use file::Answer;
 use flow::Flow;
-use machine::Outcome;
 use machine::stepping::step;
 ghost use mathlib.Core.Path.{_≡_};
 ghost use Prim.Native.Nat.{_≤_};
@@ -15,7 +15,7 @@ ghost use Rattle.layout.specs.Refusal.{unless, firstAt};
 ghost use Rattle.file.specs.Answers.{answerOf};
 ghost use Rattle.layout.specs.File.{tasksIn};
 ghost use Rattle.steps.specs.Run.{Names};
-ghost use Rattle.machine.specs.Arrays.{Ready};
+ghost use Rattle.arrays.specs.Arrays.{Ready};
 ghost use Rattle.run.specs.Promises.{RunPromise, Walked};
 
 // 14: the first byte of a schedule that is not below workers.
@@ -39,7 +39,7 @@ fn schedule_met(schedule: &[u8], workers: u32) -> Answer
     }
 }
 
-// The steps of a schedule, from a fresh start, and what is told of them. A step that does not advance is held.
+// The steps of a schedule, from a fresh start, and what is told of them.
 fn walk(file: &[u8], tasks: u32, workers: u32, cells: &mut [u32], schedule: &[u8]) -> RunAnswer
     requires { ⌜ Ready (now file) tasks (length (now cells)) × (workers ≤ mostWorkers) × (length (now schedule) ≤ mostSchedule) ⌝ }
     requires { ⌜ Names workers (now schedule) ⌝ }
@@ -47,8 +47,11 @@ fn walk(file: &[u8], tasks: u32, workers: u32, cells: &mut [u32], schedule: &[u8
 {
     let mut shared = [[0u32; 2]; Flow::ROOM_FOR_CELLS];
     let mut private = [[[0u32; 2]; Flow::ROOM_FOR_CELLS]; Flow::ROOM_FOR_WORKERS];
-    let mut places = [[0u32; 3]; Flow::ROOM_FOR_WORKERS];
-    let mut advanced: u32 = 0;
+    let first = [0u32, 0, 0, row::first_byte(1)];
+    let mut places = [first; Flow::ROOM_FOR_WORKERS];
+    let mut counts = [0u32; 3];
+    let mut reasons = [0u32; Flow::ROOM_FOR_WORKERS];
+    let mut waited = [0u32; Flow::ROOM_FOR_WORKERS];
     let mut i = 0;
     while i < schedule.len() {
         let w = octets::index(schedule[i]);
@@ -61,12 +64,11 @@ fn walk(file: &[u8], tasks: u32, workers: u32, cells: &mut [u32], schedule: &[u8
             &mut private,
             &mut places,
         );
-        if let Outcome::Advanced = why {
-            advanced += 1;
-        }
+        note(why, w, &mut counts, &mut reasons, &mut waited);
         i += 1;
     }
-    let held = schedule.len() as u32 - advanced;
+    let held = counts[0] + counts[1] + counts[2];
+    let advanced = schedule.len() as u32 - held;
     let done = done_tasks(file, tasks, cells.len(), &places);
     let finished = all_past(workers, tasks, &places);
     RunAnswer {
@@ -76,6 +78,11 @@ fn walk(file: &[u8], tasks: u32, workers: u32, cells: &mut [u32], schedule: &[u8
         held,
         done,
         finished,
+        past_last: counts[0],
+        write_differs: counts[1],
+        reads_differ: counts[2],
+        reasons,
+        cells: waited,
     }
 }
 

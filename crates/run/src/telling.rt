@@ -1,5 +1,5 @@
 // What is told of a run once its schedule is over: the done tasks, and whether all workers are past the last.
-use machine::Places;
+use arrays::Places;
 ghost use mathlib.Core.Path.{_≡_};
 ghost use mathlib.Core.Bool.{cond};
 ghost use mathlib.Core.List.{[]};
@@ -10,7 +10,7 @@ ghost use Rattle.layout.specs.Lists.{each, all};
 ghost use Rattle.layout.specs.Flow.{mostWorkers};
 ghost use Rattle.steps.specs.Run.{doneTasks};
 ghost use Rattle.layout.specs.File.{tasksIn};
-ghost use Rattle.machine.specs.Arrays.{arrays, machineOf, Ready};
+ghost use Rattle.arrays.specs.Arrays.{arrays, machineOf, Ready};
 
 // How many tasks are done: the owner has gone past the task.
 pub(crate) fn done_tasks(file: &[u8], tasks: u32, cells: usize, places: &Places) -> u32

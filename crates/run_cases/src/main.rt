@@ -15,6 +15,9 @@ fn stepped(name: &[u8], file: &[u8], cells: &mut [u32], schedule: &[u8]) {
     let told = run::run(file, cells, schedule);
     say::answered(name, told.number, told.place);
     say::counts(told.advanced, told.held, told.done, told.finished);
+    say::reasons(told.past_last, told.write_differs, told.reads_differ);
+    say::latest(0, told.reasons[0], told.cells[0]);
+    say::latest(1, told.reasons[1], told.cells[1]);
     say::cells(cells);
 }
 
@@ -46,6 +49,12 @@ fn plain_cases(file: &[u8]) {
 fn short_schedules(file: &[u8]) {
     scheduled(b"no schedule", file, b"");
     scheduled(b"schedule 0 1", file, b"\x00\x01");
+    scheduled(b"schedule 1 1", file, b"\x01\x01");
+    scheduled(
+        b"schedule 1 1 2, 14 after a held step",
+        file,
+        b"\x01\x01\x02",
+    );
     scheduled(b"schedule 0 2", file, b"\x00\x02");
     scheduled(b"schedule 2 0", file, b"\x02\x00");
     scheduled(b"schedule 0 0 255 2", file, b"\x00\x00\xff\x02");

@@ -1,4 +1,5 @@
-// The lines: a case's name, the number and the place answered, the counts of a stepped run, and the cells.
+// The lines: a case's name, the number and the place answered, the counts of a stepped run with the latest held step of workers 0 and 1, and
+// the cells.
 use libc::STDOUT_FILENO;
 
 fn decimal(n: u32) {
@@ -22,6 +23,20 @@ pub(crate) fn counts(advanced: u32, held: u32, done: u32, finished: u32) {
     named(b" held ", held);
     named(b" done ", done);
     named(b" finished ", finished);
+}
+
+// Of the held steps, how many for each reason.
+pub(crate) fn reasons(past_last: u32, write_differs: u32, reads_differ: u32) {
+    named(b" past last ", past_last);
+    named(b" write differs ", write_differs);
+    named(b" reads differ ", reads_differ);
+}
+
+// The reason and the cell of a worker's latest held step.
+pub(crate) fn latest(worker: u32, reason: u32, cell: u32) {
+    named(b" worker ", worker);
+    named(b" reason ", reason);
+    named(b" cell ", cell);
 }
 
 // The cells, and the end of the line.

@@ -3,7 +3,7 @@ use mathlib.Core.Path.{sym, _∙_}
 use native.Mathlib.Omega.{arith}
 use borrow.Author.Needs.{needs}
 use Rattle.layout.specs.Refusal.{refusal}
-use Rattle.machine.proofs.Accepted.{ready}
+use Rattle.arrays.proofs.Accepted.{ready}
 use Rattle.run.proofs.Outcomes.{plain-refused, file-refused, cells-refused, plain-done}
 use Rattle.run.proofs.plainly.plain.Statement.{statement}
 use Rattle.run.proofs.plainly.plain.Tie as tie

@@ -9,7 +9,7 @@ use Rattle.layout.specs.Row.{taskOf}
 use Rattle.layout.specs.File.{rowAt, tasksIn}
 use Rattle.steps.specs.Operations.{effect}
 use Rattle.steps.specs.Plain.{afterOperations, afterTasks}
-use Rattle.machine.proofs.Rows.{row-there}
+use Rattle.arrays.proofs.Rows.{row-there}
 use Rattle.run.proofs.OneByOne.{row-fits, task-next, tasks-end}
 use Rattle.run.proofs.plainly.plain_tasks.Statement.{statement}
 use Rattle.run.proofs.plainly.plain_tasks.Tie as tie

@@ -5,7 +5,7 @@ use borrow.Author.Needs.{needs}
 use lib.ListN.{length}
 use Rattle.layout.specs.Refusal.{refusal}
 use Rattle.file.proofs.Outcomes.{within}
-use Rattle.machine.proofs.Accepted.{ready}
+use Rattle.arrays.proofs.Accepted.{ready}
 use Rattle.run.proofs.Outcomes.{file-refused, cells-refused, plain-passed-on, run-refused, too-long, names-answer, names, run-done}
 use Rattle.run.proofs.scheduled.run.Statement.{statement}
 use Rattle.run.proofs.scheduled.run.Tie as tie

@@ -9,7 +9,7 @@ use lib.ListN.{getD}
 use Rattle.steps.specs.Run.{doneTasks}
 use Rattle.layout.specs.Flow.{mostWorkers}
 use Rattle.layout.specs.File.{rowAt, tasksIn}
-use Rattle.machine.specs.Arrays.{arrays, machineOf}
+use Rattle.arrays.specs.Arrays.{arrays, machineOf}
 use Rattle.run.proofs.Done.{owner-read, Counted, one-done, one-left, all-counted}
 use Rattle.run.proofs.telling.done_tasks.Statement.{statement}
 use Rattle.run.proofs.telling.done_tasks.Tie as tie
