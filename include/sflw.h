@@ -5,8 +5,8 @@
  * Every call fills its answer and returns the answer's number: 0 for success,
  * 1 to 16 for a refusal. The place says where the fault is: a block (from 0),
  * a task (from 1) or the index of a schedule byte (from 0), and is 0 where
- * none is named. With a refusal every count in the answer is 0, and all other
- * lent memory is as it was.
+ * none is named. With a refusal every count in the answer is 0, no worker was
+ * held, and all other lent memory is as it was.
  *
  * Lengths are in bytes, but for cells_len, which counts cells of 32 bits. A
  * pointer must not be null, even with length 0. Nothing that is lent for
@@ -51,6 +51,23 @@ typedef struct sflw_plain_answer {
     uint32_t place;
 } sflw_plain_answer;
 
+/*
+ * The latest held step of a worker: why it was held, and the cell that was
+ * waited for. The cell is 0 with the reasons 0 and 1, which name none.
+ */
+#define SFLW_NEVER_HELD 0u    /* no step of the worker was held, or the flow
+                                 does not have the worker */
+#define SFLW_PAST_LAST 1u     /* the worker is past the last task */
+#define SFLW_WRITE_DIFFERS 2u /* the last write of the cell differs: it waits
+                                 for an earlier task that writes the cell */
+#define SFLW_READS_DIFFER 3u  /* the reads of the cell differ: it waits for
+                                 earlier tasks that read the cell */
+
+typedef struct sflw_latest_held {
+    uint32_t reason;
+    uint32_t cell;
+} sflw_latest_held;
+
 typedef struct sflw_run_answer {
     uint32_t number;
     uint32_t place;
@@ -60,7 +77,11 @@ typedef struct sflw_run_answer {
                           been made: the owner has gone past the task, and
                           no worker waits for it */
     uint32_t finished; /* 1 if all workers are past the last task, else 0 */
-} sflw_run_answer;
+    uint32_t past_last;     /* of the held steps, how many for each reason: */
+    uint32_t write_differs; /* the three add up to held */
+    uint32_t reads_differ;
+    sflw_latest_held latest[8]; /* of workers 0 to 7 */
+} sflw_run_answer;              /* 25 words of 32 bits */
 
 /*
  * Checks a flow file. Refusals 1 to 11. On success it answers the flow's
@@ -102,7 +123,8 @@ uint32_t sflw_plain(const uint8_t *file, size_t file_len,
  * The stepped run: each byte of the schedule names the worker that tries its
  * next step. In place on the lent cells, as the plain run. Refusals 1 to 11,
  * then 12, then 13 if the schedule is over 65,536 bytes, then 14 at its first
- * byte that names no worker.
+ * byte that names no worker. On success it answers the counts, why steps were
+ * held, and the latest held step of each worker.
  */
 uint32_t sflw_run(const uint8_t *file, size_t file_len,
                   uint32_t *cells, size_t cells_len,

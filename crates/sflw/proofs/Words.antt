@@ -1,5 +1,5 @@
 -- What the core call promises is what the call for C promises: the number and the words follow from the answer.
-use mathlib.Core.Path.{ap}
+use mathlib.Core.Path.{_≡_, ap, _∙_}
 use mathlib.Core.List.{List}
 use Prim.Native.Nat.{ℕ}
 use Rattle.reader.specs.declared.ReadAnswer.{ReadAnswer}
@@ -26,6 +26,8 @@ written p = record { number-is = ap (λ (a : WriteAnswer). a .number) (p .answer
 pub plain : {file cells : List ℕ} {told : PlainAnswer} {after : List ℕ} → PlainPromise file cells told after → Plain file cells (told .number) after (plainWords told)
 plain p = record { number-is = ap (λ (a : PlainAnswer). a .number) (p .answer); words-are = ap plainWords (p .answer); cells-after = p .cells-after }
 
-pub ran : {file cells schedule : List ℕ} {told : RunAnswer} {after : List ℕ} → RunPromise file cells schedule told after
-    → Ran file cells schedule (told .number) after (runWords told)
-ran p = record { number-is = ap (λ (a : RunAnswer). a .number) (p .answer); words-are = ap runWords (p .answer); cells-after = p .cells-after }
+pub ran : {file cells schedule : List ℕ} {told : RunAnswer} {after words : List ℕ} → RunPromise file cells schedule told after
+    → words ≡ runWords told
+    → Ran file cells schedule (told .number) after words
+ran p e =
+    record { number-is = ap (λ (a : RunAnswer). a .number) (p .answer); words-are = e ∙ ap runWords (p .answer); cells-after = p .cells-after }

@@ -3,11 +3,12 @@
 use mathlib.Core.Path.{_≡_}
 use mathlib.Core.List.{List, [], _∷_}
 use Prim.Native.Nat.{ℕ}
+use lib.ListN.{getD}
 use Rattle.reader.specs.declared.ReadAnswer.{ReadAnswer}
 use Rattle.reader.specs.Answers.{readIs, rowsAfter}
 use Rattle.writer.specs.declared.WriteAnswer.{WriteAnswer}
 use Rattle.writer.specs.Answers.{writeIs, outAfter}
-use Rattle.steps.specs.Answers.{plainAnswer, plainCells, runTold, runCells}
+use Rattle.steps.specs.Answers.{plainAnswer, plainCells, runTold, runHeld, runCells}
 use Rattle.run.specs.declared.PlainAnswer.{PlainAnswer}
 use Rattle.run.specs.declared.RunAnswer.{RunAnswer}
 use Rattle.run.specs.Promises.{plainIs, runIs}
@@ -28,8 +29,15 @@ writeWords met = met .number ∷ met .place ∷ met .bytes ∷ []
 abbrev pub plainWords : PlainAnswer → List ℕ
 plainWords told = told .number ∷ told .place ∷ []
 
+-- the reason and the cell of a worker (02, Q-1), before the words of the workers after it
+abbrev pub worker : RunAnswer → ℕ → List ℕ → List ℕ
+worker told w later = getD (told .reasons) w 0 ∷ getD (told .cells) w 0 ∷ later
+
 abbrev pub runWords : RunAnswer → List ℕ
-runWords told = told .number ∷ told .place ∷ told .advanced ∷ told .held ∷ told .done ∷ told .finished ∷ []
+runWords told =
+    told .number ∷ told .place ∷ told .advanced ∷ told .held ∷ told .done ∷ told .finished
+    ∷ told .«past_last» ∷ told .«write_differs» ∷ told .«reads_differ»
+    ∷ worker told 0 (worker told 1 (worker told 2 (worker told 3 (worker told 4 (worker told 5 (worker told 6 (worker told 7 [])))))))
 
 -- ---- the promises
 
@@ -54,5 +62,5 @@ pub record Plain (file cells : List ℕ) (r : ℕ) (after words : List ℕ) : Ty
 
 pub record Ran (file cells schedule : List ℕ) (r : ℕ) (after words : List ℕ) : Type 0 where
   pub number-is : r ≡ runTold file cells schedule .number
-  pub words-are : words ≡ runWords (runIs (runTold file cells schedule))
+  pub words-are : words ≡ runWords (runIs (runTold file cells schedule) (runHeld file cells schedule))
   pub cells-after : after ≡ runCells file cells schedule

@@ -1,5 +1,7 @@
 // The calls for programs in C. Each fills the words of its answer, in the order of include/sflw.h, and returns the number.
-ghost use Rattle.sflw.specs.Words.{Checked, Read, Written, Plain, Ran};
+use run::RunAnswer;
+ghost use mathlib.Core.Path.{_≡_};
+ghost use Rattle.sflw.specs.Words.{runWords, Checked, Read, Written, Plain, Ran};
 
 // Checks a flow file: its sizes and its total.
 #[no_mangle]
@@ -61,17 +63,10 @@ pub extern "C" fn sflw_plain(file: &[u8], cells: &mut [u32], answer: &mut [u32; 
     told.number
 }
 
-// Runs a flow under a schedule.
-#[no_mangle]
-pub extern "C" fn sflw_run(
-    file: &[u8],
-    cells: &mut [u32],
-    schedule: &[u8],
-    answer: &mut [u32; 6],
-) -> u32
-    ensures { λ r. ⌜ Ran (now (file .entry)) (now (cells .entry)) (now (schedule .entry)) r (now (cells .exit)) (now (answer .exit)) ⌝ }
+// The words of a stepped run's answer.
+fn tell_run(told: RunAnswer, answer: &mut [u32; 25])
+    ensures { λ _. ⌜ now (answer .exit) ≡ runWords told ⌝ }
 {
-    let told = run::run(file, cells, schedule);
     *answer = [
         told.number,
         told.place,
@@ -79,6 +74,40 @@ pub extern "C" fn sflw_run(
         told.held,
         told.done,
         told.finished,
+        told.past_last,
+        told.write_differs,
+        told.reads_differ,
+        told.reasons[0],
+        told.cells[0],
+        told.reasons[1],
+        told.cells[1],
+        told.reasons[2],
+        told.cells[2],
+        told.reasons[3],
+        told.cells[3],
+        told.reasons[4],
+        told.cells[4],
+        told.reasons[5],
+        told.cells[5],
+        told.reasons[6],
+        told.cells[6],
+        told.reasons[7],
+        told.cells[7],
     ];
-    told.number
+}
+
+// Runs a flow under a schedule.
+#[no_mangle]
+pub extern "C" fn sflw_run(
+    file: &[u8],
+    cells: &mut [u32],
+    schedule: &[u8],
+    answer: &mut [u32; 25],
+) -> u32
+    ensures { λ r. ⌜ Ran (now (file .entry)) (now (cells .entry)) (now (schedule .entry)) r (now (cells .exit)) (now (answer .exit)) ⌝ }
+{
+    let told = run::run(file, cells, schedule);
+    let number = told.number;
+    tell_run(told, answer);
+    number
 }

@@ -1,5 +1,6 @@
 // The five calls, as a program in C makes them. Words of the answer are marked before the call, so that it has to fill them. What is
 // lent for reading no call can change: its type says so.
+use crate::head;
 use crate::head::Head;
 use crate::numbers;
 ghost use Prim.Native.Nat.{_*_, _≤_};
@@ -11,47 +12,51 @@ pub(crate) struct Answer {
     // What the call returned, which is the answer's first word too.
     pub(crate) returned: u32,
     // Zero past the last word that the call's answer has.
-    pub(crate) words: [u32; 6],
+    pub(crate) words: [u32; head::WORDS],
+}
+
+// What was returned, with the words of the answer and zeros after them.
+fn answered(returned: u32, words: &[u32]) -> Answer {
+    let mut all = [0u32; head::WORDS];
+    let mut i = 0;
+    while i < head::WORDS {
+        if i < words.len() {
+            all[i] = words[i];
+        }
+        i += 1;
+    }
+    Answer {
+        returned: returned,
+        words: all,
+    }
 }
 
 fn check(file: &[u8]) -> Answer {
     let mut words = [MARK; 6];
     let returned = sflw::sflw_check(file, &mut words);
-    Answer {
-        returned: returned,
-        words: words,
-    }
+    answered(returned, &words)
 }
 
 fn read(file: &[u8], rows: &mut [u8]) -> Answer {
     let mut words = [MARK; 6];
     let returned = sflw::sflw_read(file, rows, &mut words);
-    Answer {
-        returned: returned,
-        words: words,
-    }
+    answered(returned, &words)
 }
 
 fn write(rows: &[u8], workers: u32, cells: u32, out: &mut [u8]) -> Answer {
     let mut words = [MARK; 3];
     let returned = sflw::sflw_write(rows, workers, cells, out, &mut words);
-    Answer {
-        returned: returned,
-        words: [words[0], words[1], words[2], 0, 0, 0],
-    }
+    answered(returned, &[words[0], words[1], words[2]])
 }
 
 fn plain(file: &[u8], cells: &mut [u32]) -> Answer {
     let mut words = [MARK; 2];
     let returned = sflw::sflw_plain(file, cells, &mut words);
-    Answer {
-        returned: returned,
-        words: [words[0], words[1], 0, 0, 0, 0],
-    }
+    answered(returned, &words)
 }
 
 fn run(file: &[u8], cells: &mut [u32], schedule: &[u8]) -> Answer {
-    let mut words = [MARK; 6];
+    let mut words = [MARK; head::WORDS];
     let returned = sflw::sflw_run(file, cells, schedule, &mut words);
     Answer {
         returned: returned,

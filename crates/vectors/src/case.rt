@@ -14,9 +14,9 @@ pub(crate) enum Outcome {
     CutOff,
 }
 
-fn same_words(words: &[u32; 6], stored: &[u32; 6]) -> bool {
+fn same_words(words: &[u32; head::WORDS], stored: &[u32; head::WORDS]) -> bool {
     let mut i = 0;
-    while i < 6 {
+    while i < head::WORDS {
         if words[i] != stored[i] {
             return false;
         }
@@ -26,7 +26,7 @@ fn same_words(words: &[u32; 6], stored: &[u32; 6]) -> bool {
 }
 
 // Whether the call returned and filled in what is stored.
-fn same_answer(answer: Answer, stored: [u32; 6]) -> bool {
+fn same_answer(answer: Answer, stored: [u32; head::WORDS]) -> bool {
     let words = answer.words;
     (answer.returned == stored[0]) & same_words(&words, &stored)
 }

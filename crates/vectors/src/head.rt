@@ -8,7 +8,10 @@ pub(crate) const ROOM: usize = 16384;
 
 pub(crate) const ROOM_SCHEDULE: usize = 70000;
 
-const SIZE: usize = 52;
+// The words of the longest answer, and the bytes of a head: seven numbers and those words.
+pub(crate) const WORDS: usize = 25;
+
+const SIZE: usize = 128;
 
 pub(crate) struct Head {
     // Whether the data had a whole head.
@@ -21,28 +24,24 @@ pub(crate) struct Head {
     pub(crate) lent: usize,
     pub(crate) schedule: usize,
     pub(crate) stored: usize,
-    pub(crate) answer: [u32; 6],
+    pub(crate) answer: [u32; WORDS],
 }
 
-fn words(bytes: &[u8; 52]) -> [u32; 6] {
-    [
-        numbers::number(bytes, 28),
-        numbers::number(bytes, 32),
-        numbers::number(bytes, 36),
-        numbers::number(bytes, 40),
-        numbers::number(bytes, 44),
-        numbers::number(bytes, 48),
-    ]
+fn words(bytes: &[u8; SIZE]) -> [u32; WORDS] {
+    let all = &bytes[..];
+    let mut words = [0u32; WORDS];
+    numbers::take_all(&all[28..128], &mut words);
+    words
 }
 
-fn size(bytes: &[u8; 52], at: usize) -> usize
+fn size(bytes: &[u8; SIZE], at: usize) -> usize
     requires { ⌜ at ≤ 48 ⌝ }
 {
     octets::offset(numbers::number(bytes, at))
 }
 
 impl Head {
-    fn of(bytes: &[u8; 52], whole: bool) -> Head {
+    fn of(bytes: &[u8; SIZE], whole: bool) -> Head {
         let answer = words(bytes);
         Head {
             whole: whole,
