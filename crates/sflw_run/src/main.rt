@@ -10,14 +10,12 @@ ghost use Rattle.layout.specs.Flow.{mostWorkers, mostCells};
 ghost use Rattle.steps.specs.Run.{largestTotal};
 
 // Runs a flow of these sizes with the workers in turn, and writes what came of it.
-fn run_in_turn(file: &[u8], sizes: Measured, cells: &mut [u32], schedule: &mut [u8])
+fn run_and_tell(file: &[u8], sizes: Measured, cells: &mut [u32], room: &mut [u8])
     requires { ⌜ (sizes .workers ≤ mostWorkers) × (sizes .total ≤ largestTotal) × (sizes .cells ≤ mostCells) ⌝ }
-    requires { ⌜ (mostCells ≤ length (now cells)) × (mostWorkers * largestTotal ≤ length (now schedule)) ⌝ }
+    requires { ⌜ (mostCells ≤ length (now cells)) × (mostWorkers * largestTotal ≤ length (now room)) ⌝ }
 {
-    let steps = octets::offset(sizes.workers * sizes.total);
     let count = octets::offset(sizes.cells);
-    measure::in_turn(sizes.workers as u8, schedule);
-    let told = run::run(file, &mut cells[..count], &schedule[..steps]);
+    let told = in_turn::run(file, sizes.workers, sizes.total, &mut cells[..count], room);
     if told.number != 0 {
         say::refused(told.number, told.place);
         return;
@@ -38,6 +36,6 @@ fn main() {
         return;
     }
     let mut cells = [0u32; Flow::ROOM_FOR_CELLS];
-    let mut schedule = io::large_buffer();
-    run_in_turn(file, sizes, &mut cells, &mut schedule);
+    let mut room = io::large_buffer();
+    run_and_tell(file, sizes, &mut cells, &mut room);
 }
