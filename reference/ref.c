@@ -1,6 +1,7 @@
 /*
- * The flow format and its runs, in C. "01" is the scope document; a comment
- * that quotes it names the rule that the code below it keeps.
+ * The flow format and its runs, in C. "01" is the scope document, "02" the
+ * change requests after it. A comment that quotes one of them names the rule
+ * that the code below it keeps; it is 01 where none is said.
  *
  * Nothing is copied and nothing is allocated: a file is checked where it
  * lies, in one pass over its blocks and one over its rows, and the runs read
@@ -506,14 +507,26 @@ enum phase {
     PAST        /* past the last task */
 };
 
+/* What a step answers that is not held. One that is held answers why: one of
+   the reasons of sflw.h. */
+enum { ADVANCED = SFLW_NEVER_HELD };
+
+/* Why a step was held, and the cell where the reason names one. */
+struct held {
+    uint8_t reason;
+    uint8_t cell;
+};
+
 /* Where a worker is: the task with its row, the phase, and which access or
-   operation of the task is next. Then its private row of counters. */
+   operation of the task is next. Then its latest held step, and its private
+   row of counters. */
 struct worker {
     const uint8_t *row;
     uint8_t name;
     uint8_t task;
     uint8_t phase;
     uint8_t index;
+    struct held latest;
     struct counters private[MAX_CELLS];
 };
 
@@ -586,27 +599,35 @@ static void next_wait(struct worker *worker)
     }
 }
 
+/* "A held step shall say one of three things" (02, Q-1). It is the worker's
+   latest from now on. */
+static uint32_t hold(struct worker *worker, uint8_t reason, uint8_t cell)
+{
+    worker->latest = (struct held){reason, cell};
+    return reason;
+}
+
 /* "passing if private and shared last write are equal" */
-static bool wait_write(struct run *run, struct worker *worker)
+static uint32_t wait_write(struct run *run, struct worker *worker)
 {
     const uint8_t *access = next_access(worker);
     if (worker->private[access[0]].last_write != run->shared[access[0]].last_write)
-        return false;
+        return hold(worker, SFLW_WRITE_DIFFERS, access[0]);
     if (access[1] == MODE_READ)
         next_wait(worker);
     else
         worker->phase = WAIT_READS;
-    return true;
+    return ADVANCED;
 }
 
 /* "then a second, passing if private and shared reads are equal" */
-static bool wait_reads(struct run *run, struct worker *worker)
+static uint32_t wait_reads(struct run *run, struct worker *worker)
 {
     const uint8_t *access = next_access(worker);
     if (worker->private[access[0]].reads != run->shared[access[0]].reads)
-        return false;
+        return hold(worker, SFLW_READS_DIFFER, access[0]);
     next_wait(worker);
-    return true;
+    return ADVANCED;
 }
 
 static void make_operation(struct run *run, struct worker *worker)
@@ -652,28 +673,28 @@ static void end_write(struct run *run, struct worker *worker)
     next_end(run, worker);
 }
 
-/* One step of the worker named; false if it is held. */
-static bool step(struct run *run, struct worker *worker)
+/* One step of the worker named: ADVANCED, or why it is held. */
+static uint32_t step(struct run *run, struct worker *worker)
 {
     switch (worker->phase) {
     case OTHER:
         register_task(run, worker);
-        return true;
+        return ADVANCED;
     case WAIT_WRITE:
         return wait_write(run, worker);
     case WAIT_READS:
         return wait_reads(run, worker);
     case OPERATE:
         make_operation(run, worker);
-        return true;
+        return ADVANCED;
     case END:
         end_access(run, worker);
-        return true;
+        return ADVANCED;
     case END_WRITE:
         end_write(run, worker);
-        return true;
+        return ADVANCED;
     default: /* PAST */
-        return false;
+        return hold(worker, SFLW_PAST_LAST, 0);
     }
 }
 
@@ -710,6 +731,51 @@ static uint32_t check_run(const uint8_t *file, size_t file_len, size_t cells_len
     return 0;
 }
 
+/*
+ * A step for each byte of the schedule. 02, Q-1: "The run's answer carries a
+ * count of each, and the three add up to held."
+ */
+static void make_steps(struct run *run, const uint8_t *schedule, size_t schedule_len,
+                       sflw_run_answer *answer)
+{
+    uint32_t advanced = 0;
+    uint32_t past_last = 0;
+    uint32_t write_differs = 0;
+    uint32_t reads_differ = 0;
+
+    for (size_t i = 0; i < schedule_len; i++) {
+        switch (step(run, &run->workers[schedule[i]])) {
+        case ADVANCED:
+            advanced++;
+            break;
+        case SFLW_PAST_LAST:
+            past_last++;
+            break;
+        case SFLW_WRITE_DIFFERS:
+            write_differs++;
+            break;
+        default: /* SFLW_READS_DIFFER */
+            reads_differ++;
+            break;
+        }
+    }
+    *answer = (sflw_run_answer){.advanced = advanced,
+                                .held = past_last + write_differs + reads_differ,
+                                .past_last = past_last,
+                                .write_differs = write_differs,
+                                .reads_differ = reads_differ};
+}
+
+/* 02, Q-1: "for each worker, the reason and cell of its latest held step, or
+   that it had none". A worker that the flow does not have had none. */
+static void say_latest(const struct run *run, sflw_run_answer *answer)
+{
+    for (uint32_t i = 0; i < MAX_WORKERS; i++) {
+        answer->latest[i].reason = run->workers[i].latest.reason;
+        answer->latest[i].cell = run->workers[i].latest.cell;
+    }
+}
+
 uint32_t ref_run(const uint8_t *file, size_t file_len,
                  uint32_t *cells, size_t cells_len,
                  const uint8_t *schedule, size_t schedule_len,
@@ -724,18 +790,10 @@ uint32_t ref_run(const uint8_t *file, size_t file_len,
         *answer = (sflw_run_answer){.number = number, .place = place};
         return number;
     }
-    uint32_t advanced = 0;
-    uint32_t held = 0;
     start(&run, file, cells, &flow);
-    for (size_t i = 0; i < schedule_len; i++) {
-        if (step(&run, &run.workers[schedule[i]]))
-            advanced++;
-        else
-            held++;
-    }
-    *answer = (sflw_run_answer){.advanced = advanced,
-                                .held = held,
-                                .done = run.done,
-                                .finished = run.past == flow.workers};
+    make_steps(&run, schedule, schedule_len, answer);
+    answer->done = run.done;
+    answer->finished = run.past == flow.workers;
+    say_latest(&run, answer);
     return 0;
 }

@@ -1,7 +1,7 @@
 /*
  * A reference for the calls of sflw.h, in C, written from the scope document
- * (below: 01) alone. Each call does what the one of the same name in sflw.h
- * does, and has the same answer.
+ * (below: 01) and the change requests after it (02) alone. Each call does what
+ * the one of the same name in sflw.h does, and has the same answer.
  */
 #ifndef REF_H
 #define REF_H

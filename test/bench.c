@@ -367,7 +367,7 @@ static uint8_t lent_output[ROOM_OUTPUT];
 /* The call of the current case. */
 static void call_case(const struct calls *calls)
 {
-    static uint32_t answer[6];
+    static uint32_t answer[MOST_ANSWER_WORDS];
     uint32_t *lent_cells = (uint32_t *)(void *)lent_output;
     switch (current.call) {
     case CALL_CHECK:

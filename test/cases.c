@@ -12,19 +12,23 @@ const char *call_name(uint32_t call)
 
 uint32_t answer_words(uint32_t call)
 {
-    static const uint8_t words[] = {0, 6, 6, 3, 2, 6};
+    static const uint8_t words[] = {0, 6, 6, 3, 2, 25};
     return words[call <= CALL_RUN ? call : 0];
 }
 
 const char *answer_word(uint32_t call, uint32_t index)
 {
-    static const char *const words[6][6] = {
+    static const char *const words[6][MOST_ANSWER_WORDS] = {
         {0},
         {"number", "place", "tasks", "workers", "cells", "total"},
         {"number", "place", "bytes", "tasks", "workers", "cells"},
         {"number", "place", "bytes"},
         {"number", "place"},
-        {"number", "place", "advanced", "held", "done", "finished"},
+        {"number",    "place",         "advanced",     "held",    "done",  "finished",
+         "past_last", "write_differs", "reads_differ", "reason0", "cell0", "reason1",
+         "cell1",     "reason2",       "cell2",        "reason3", "cell3", "reason4",
+         "cell4",     "reason5",       "cell5",        "reason6", "cell6", "reason7",
+         "cell7"},
     };
     return words[call][index];
 }

@@ -42,7 +42,9 @@ void make_case(uint64_t seed, uint64_t number, enum sizes sizes, struct test_cas
 
 const char *call_name(uint32_t call);
 
-/* The words of a call's answer: 6, 6, 3, 2, 6. */
+enum { MOST_ANSWER_WORDS = 25 };
+
+/* The words of a call's answer: 6, 6, 3, 2, 25. */
 uint32_t answer_words(uint32_t call);
 
 /* The name of a word of a call's answer. */

@@ -6,6 +6,11 @@
  *
  * Ends at the first difference, with the seed and the number of the case.
  * FIRST is the number of the first case, to come straight to one.
+ *
+ * Else it shows what was met: how often each number; for each reason of a held
+ * step, in how many runs that were not refused a step was held for it (for 0,
+ * in how many none was held), and how many workers of theirs have it as their
+ * latest.
  */
 #define _DEFAULT_SOURCE
 
@@ -21,7 +26,7 @@
 #include <time.h>
 #include <unistd.h>
 
-enum { NUMBERS = 17 };
+enum { NUMBERS = 17, REASONS = 4 };
 
 static const struct calls library = LIBRARY_CALLS;
 static const struct calls reference = REFERENCE_CALLS;
@@ -42,17 +47,32 @@ struct tally {
     uint64_t known;
     uint64_t finished;
     uint64_t steps;
+    uint64_t runs[REASONS];   /* with a step held for it; 0: with none held */
+    uint64_t latest[REASONS]; /* of a worker that the flow has */
 };
 
 static struct tally tally;
+
+/* A run that was not refused. */
+static void count_run(const sflw_run_answer *run)
+{
+    tally.finished += run->finished;
+    tally.steps += current.schedule_len;
+    tally.runs[SFLW_NEVER_HELD] += run->held == 0;
+    tally.runs[SFLW_PAST_LAST] += run->past_last > 0;
+    tally.runs[SFLW_WRITE_DIFFERS] += run->write_differs > 0;
+    tally.runs[SFLW_READS_DIFFER] += run->reads_differ > 0;
+    for (uint32_t i = 0; i < current.input[12]; i++)
+        tally.latest[run->latest[i].reason]++;
+}
 
 static void count_case(void)
 {
     tally.met[current.call][reference_memory.returned]++;
     tally.known += current.known;
     if (current.call == CALL_RUN && reference_memory.returned == 0) {
-        tally.finished += answer_at(&reference_memory, 5);
-        tally.steps += current.schedule_len;
+        sflw_run_answer run = run_answer(&reference_memory);
+        count_run(&run);
     }
 }
 
@@ -76,17 +96,31 @@ static void print_tally(void)
             printf(" %8" PRIu64, tally.met[call][number]);
         printf(" %9" PRIu64 "\n", met_in_all(number));
     }
+    printf("%6s %8s %8s\n", "reason", "runs", "latest");
+    for (uint32_t reason = 0; reason < REASONS; reason++)
+        printf("%6" PRIu32 " %8" PRIu64 " %8" PRIu64 "\n", reason, tally.runs[reason],
+               tally.latest[reason]);
 }
 
-/* Every number at least 20 times in 100,000 cases. */
+static bool enough_of(const char *what, uint32_t which, uint64_t met, uint64_t wanted)
+{
+    if (met < wanted)
+        printf("%s %" PRIu32 " was met too seldom\n", what, which);
+    return met >= wanted;
+}
+
+/* Every number at least 20 times in 100,000 cases. Every reason at least once
+   in a hundred runs that are not refused, and as often as a latest one. */
 static bool enough_met(uint64_t cases)
 {
+    uint64_t runs = tally.met[CALL_RUN][0];
     bool enough = true;
-    for (uint32_t number = 0; number < NUMBERS; number++) {
-        if (met_in_all(number) < cases / 5000) {
-            printf("number %" PRIu32 " was met too seldom\n", number);
-            enough = false;
-        }
+
+    for (uint32_t number = 0; number < NUMBERS; number++)
+        enough &= enough_of("number", number, met_in_all(number), cases / 5000);
+    for (uint32_t reason = 0; reason < REASONS; reason++) {
+        enough &= enough_of("reason", reason, tally.runs[reason], runs / 100);
+        enough &= enough_of("latest reason", reason, tally.latest[reason], runs / 100);
     }
     return enough;
 }
@@ -181,14 +215,15 @@ static bool finished_as_plain(void)
     sflw_check_answer checked;
     sflw_plain_answer plain;
 
-    if (current.call != CALL_RUN || reference_memory.returned != 0 ||
-        answer_at(&reference_memory, 5) == 0)
+    if (current.call != CALL_RUN || reference_memory.returned != 0)
+        return true;
+    sflw_run_answer run = run_answer(&reference_memory);
+    if (run.finished == 0)
         return true;
     memcpy(cells, current.output, current.output_len);
     ref_check(current.input, current.input_len, &checked);
     ref_plain(current.input, current.input_len, cells, current.output_len / 4, &plain);
-    return answer_at(&reference_memory, 2) == checked.total &&
-           answer_at(&reference_memory, 4) == checked.tasks &&
+    return run.advanced == checked.total && run.done == checked.tasks &&
            memcmp(cells, reference_memory.output.at, current.output_len) == 0;
 }
 

@@ -102,12 +102,13 @@ plant() {
     cp "$top/sflw" "$tree/"
     cp "$top/include/sflw.h" "$tree/include/"
     printf '# a tree: for the launcher\nlow:\nother: low\nsflw: low\n' >"$tree/crates.txt"
-    for name in sflw_run "${worked[@]}"; do
+    for name in sflw_run sflw_held "${worked[@]}"; do
         echo "$name : low io # a program" >>"$tree/crates.txt"
         mkdir -p "$tree/crates/$name/src"
         program >"$tree/crates/$name/src/main.rt"
         echo "ran " >"$tree/crates/$name/stdout"
     done
+    sed -i 's/"ran /"held /' "$tree/crates/sflw_held/src/main.rt"
     for name in low other sflw; do
         mkdir -p "$tree/crates/$name/src" "$tree/crates/$name/must-fail"
         echo 1 | tee "$tree/crates/$name/src/lib.rt" >"$tree/crates/$name/src/more.rt"
@@ -135,6 +136,9 @@ statuses() {
     try 0 "$tree/sflw" && said 0
     try 2 "$tree/sflw" walk && wrote
     try 2 "$tree/sflw" run fast && wrote && said 1 "standard input"
+    try 0 "$tree/sflw" held <<<first && wrote 'held first\n' && asked 1 && said 1 "proving sflw_held"
+    try 1 "$tree/sflw" held <<<refuse && wrote 'refused 4 place 0\n' && asked 0 && said 0
+    try 2 "$tree/sflw" held fast && wrote && said 1 "standard input"
     try 0 "$tree/sflw" lib && wrote "libsflw.a and sflw.h are in $tree/target/staticlib\n" && asked 1 && said 1 "proving the library"
     try 0 "$tree/sflw" lib && wrote "libsflw.a and sflw.h are in $tree/target/staticlib\n" && asked 0 && said 0
     try 0 "$tree/sflw" cases && wrote "$(printf 'ran \\n%.0s' "${worked[@]}")" && asked 1 && said 1 "proving ${worked[0]}, "
@@ -211,10 +215,21 @@ terminal() {
 
 # ---- here
 
-# A flow is run, at once where nothing is to be proved; a damaged one is refused; a touched source is looked at.
+# The lines that a program has stored for its input, as `wrote` takes them.
+stored() {
+    sed 's/$/\\n/' "$top/crates/$1/stdout" | tr -d '\n'
+}
+
+# A damaged flow is refused by a verb in one line.
+refuses() {
+    try 1 "$top/sflw" "$1" <"$room/damaged"
+    grep -qx 'refused [0-9]* place [0-9]*' "$room/out" || wrong "a damaged flow is not refused in one line"
+}
+
+# A flow is run, at once where nothing is to be proved, and its held steps are told; a damaged one is refused; a touched source is looked at.
 here() {
     local flow="$top/examples/flow-a.sflw" lines began
-    lines="$(sed 's/$/\\n/' "$top/crates/sflw_run/stdout" | tr -d '\n')"
+    lines="$(stored sflw_run)"
     try 0 "$top/sflw" run <"$flow" && wrote "$lines"
     [ "$(wc -l <"$room/err")" -le 1 ] || wrong "standard error has more than a line"
     began=${EPOCHREALTIME/[.,]/}
@@ -222,8 +237,9 @@ here() {
     echo "launcher: a run took $(((${EPOCHREALTIME/[.,]/} - began) / 1000)) ms"
     [ $((${EPOCHREALTIME/[.,]/} - began)) -lt 300000 ] || wrong "a run with nothing to prove does not start at once"
     sed 's/^SFLW/SFLV/' "$flow" >"$room/damaged"
-    try 1 "$top/sflw" run <"$room/damaged"
-    grep -qx 'refused [0-9]* place [0-9]*' "$room/out" || wrong "a damaged flow is not refused in one line"
+    refuses run
+    try 0 "$top/sflw" held <"$top/crates/sflw_held/stdin" && wrote "$(stored sflw_held)"
+    refuses held
     touch "$top/crates/sflw_run/src/main.rt" "$room/before"
     try 0 "$top/sflw" run <"$flow" && wrote "$lines"
     [ "$top/target/proved/sflw_run" -nt "$room/before" ] || wrong "a touched source is not looked at"

@@ -9,6 +9,8 @@
 
 enum { PAGE = 4096, GUARD = 64 };
 
+_Static_assert(sizeof(sflw_run_answer) == 4 * MOST_ANSWER_WORDS, "the longest answer is a run's");
+
 static uint8_t guard_byte(size_t index)
 {
     return (uint8_t)(0xa5 ^ index * 29);
@@ -34,7 +36,7 @@ void open_memory(struct memory *memory)
     open_lent(&memory->input, ROOM_INPUT);
     open_lent(&memory->output, ROOM_OUTPUT);
     open_lent(&memory->schedule, ROOM_SCHEDULE);
-    open_lent(&memory->answer, 64);
+    open_lent(&memory->answer, 4 * MOST_ANSWER_WORDS);
 }
 
 /* The guard before the lent part is as long as there is room for, and so is
@@ -92,6 +94,13 @@ uint32_t answer_at(const struct memory *memory, uint32_t index)
     return word;
 }
 
+sflw_run_answer run_answer(const struct memory *memory)
+{
+    sflw_run_answer answer;
+    memcpy(&answer, memory->answer.at, sizeof answer);
+    return answer;
+}
+
 void call_case(const struct calls *calls, const struct test_case *given,
                enum where where, size_t shift, struct memory *memory)
 {
@@ -128,6 +137,64 @@ void call_case(const struct calls *calls, const struct test_case *given,
     }
 }
 
+/* A refusal "reports zero counts", and no worker a held step. */
+static bool counts_are_zero(const struct memory *memory, uint32_t call)
+{
+    for (uint32_t i = 2; i < answer_words(call); i++)
+        if (answer_at(memory, i) != 0)
+            return false;
+    return true;
+}
+
+static bool is_named(uint32_t worker, const struct test_case *given)
+{
+    return memchr(given->schedule, (int)worker, given->schedule_len) != NULL;
+}
+
+/* Whether a worker's latest held step can be one of a run with these counts:
+   some step was held for its reason, and it names a cell of the flow's with
+   the reasons 2 and 3, none with the others. */
+static bool latest_stands(const sflw_run_answer *run, sflw_latest_held latest, uint32_t cells)
+{
+    switch (latest.reason) {
+    case SFLW_NEVER_HELD:
+        return latest.cell == 0;
+    case SFLW_PAST_LAST:
+        return run->past_last > 0 && latest.cell == 0;
+    case SFLW_WRITE_DIFFERS:
+        return run->write_differs > 0 && latest.cell < cells;
+    case SFLW_READS_DIFFER:
+        return run->reads_differ > 0 && latest.cell < cells;
+    default:
+        return false;
+    }
+}
+
+/* What no run answers that is not refused, or null. Bytes 12 and 13 of its
+   file are the workers and the cells. */
+static const char *run_misdeed(const struct memory *memory, const struct test_case *given)
+{
+    sflw_run_answer run = run_answer(memory);
+    bool some = false;
+
+    if ((uint64_t)run.past_last + run.write_differs + run.reads_differ != run.held)
+        return "answered counts of the three reasons that do not add up to held";
+    if ((uint64_t)run.advanced + run.held != given->schedule_len)
+        return "answered another number of steps than the schedule has";
+    for (uint32_t i = 0; i < MOST_WORKERS; i++) {
+        sflw_latest_held latest = run.latest[i];
+        bool none = latest.reason == SFLW_NEVER_HELD && latest.cell == 0;
+        if (i >= given->input[12] && !none)
+            return "answered a held step of a worker that the flow does not have";
+        if (!is_named(i, given) && !none)
+            return "answered a held step of a worker that is never named";
+        if (!latest_stands(&run, latest, given->input[13]))
+            return "answered a latest held step that can be none of this run";
+        some |= latest.reason != SFLW_NEVER_HELD;
+    }
+    return some == (run.held > 0) ? NULL : "answered held steps that no worker had";
+}
+
 const char *misdeed(const struct memory *memory, const struct test_case *given)
 {
     if (!guards_hold(&memory->input) || !guards_hold(&memory->output) ||
@@ -142,5 +209,9 @@ const char *misdeed(const struct memory *memory, const struct test_case *given)
     if (memory->returned != 0 &&
         memcmp(memory->output.at, given->output, given->output_len) != 0)
         return "refused, and changed lent memory all the same";
+    if (memory->returned != 0 && !counts_are_zero(memory, given->call))
+        return "refused, and answered a count or a held step all the same";
+    if (memory->returned == 0 && given->call == CALL_RUN)
+        return run_misdeed(memory, given);
     return NULL;
 }

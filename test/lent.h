@@ -34,8 +34,11 @@ void call_case(const struct calls *calls, const struct test_case *given,
 
 uint32_t answer_at(const struct memory *memory, uint32_t index);
 
+/* The whole answer of a run. */
+sflw_run_answer run_answer(const struct memory *memory);
+
 /* What a call did that no call may do, or null: a guard or an input that is
-   not as it was. */
+   not as it was, or an answer that no call has. */
 const char *misdeed(const struct memory *memory, const struct test_case *given);
 
 #endif

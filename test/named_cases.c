@@ -210,24 +210,123 @@ static void four_cells(struct test_case *made)
     made->output_len = 16;
 }
 
+/* ---- why a worker was held --------------------------------------------- */
+
+/* A row up to its operations, of which it has none: owner, accesses, two
+   zeros, and four accesses (cell, mode). */
+enum { HEAD_BYTES = 12 };
+
+static void put_tasks(struct test_case *made, uint32_t workers, uint32_t cells,
+                      const uint8_t heads[][HEAD_BYTES], uint32_t tasks)
+{
+    struct sample flow = {tasks, workers, cells, {0}};
+    for (uint32_t i = 0; i < tasks; i++)
+        memcpy(flow.rows + i * ROW_BYTES, heads[i], HEAD_BYTES);
+    put_flow(made, &flow);
+}
+
+/* Worker 1 writes what worker 0 reads before it. */
+static void write_after_read(struct test_case *made)
+{
+    static const uint8_t heads[][HEAD_BYTES] = {{0, 1, 0, 0, 0, 1}, {1, 1, 0, 0, 0, 3}};
+    put_tasks(made, 2, 1, heads, 2);
+}
+
+/* Worker 0 writes cell 2, and then reads cell 1. Worker 1 reads cell 2 and
+   writes cell 1, in this order. */
+static void two_waits(struct test_case *made)
+{
+    static const uint8_t heads[][HEAD_BYTES] = {
+        {0, 1, 0, 0, 2, 3}, {0, 1, 0, 0, 1, 1}, {1, 2, 0, 0, 2, 1, 1, 3}};
+    put_tasks(made, 2, 3, heads, 3);
+}
+
+/* Worker 0 has one access, in this mode, to the cell of worker 1's fourth. */
+static void fourth_access(struct test_case *made, uint8_t mode, uint8_t cell)
+{
+    const uint8_t heads[][HEAD_BYTES] = {
+        {0, 1, 0, 0, cell, mode}, {1, 4, 0, 0, 15, 1, 16, 3, 17, 1, cell, 3}};
+    put_tasks(made, 2, MOST_CELLS, heads, 2);
+}
+
+static void fourth_after_write_of_31(struct test_case *made)
+{
+    fourth_access(made, 3, 31);
+}
+
+static void fourth_after_read_of_31(struct test_case *made)
+{
+    fourth_access(made, 1, 31);
+}
+
+static void fourth_after_write_of_0(struct test_case *made)
+{
+    fourth_access(made, 3, 0);
+}
+
+static void fourth_after_read_of_0(struct test_case *made)
+{
+    fourth_access(made, 1, 0);
+}
+
+/* Worker 0 writes cell 31, then reads it; the last of 8 workers writes it. */
+static void last_worker(struct test_case *made)
+{
+    static const uint8_t heads[][HEAD_BYTES] = {
+        {0, 1, 0, 0, 31, 3}, {0, 1, 0, 0, 31, 1}, {7, 1, 0, 0, 31, 3}};
+    put_tasks(made, MOST_WORKERS, MOST_CELLS, heads, 3);
+}
+
+/* Worker 0 writes four cells, then reads four others; each of the workers 1 to
+   7 waits for one of the eight. */
+static void eight_workers(struct test_case *made)
+{
+    static const uint8_t heads[][HEAD_BYTES] = {
+        {0, 4, 0, 0, 10, 3, 20, 3, 31, 3, 0, 3},
+        {0, 4, 0, 0, 1, 1, 11, 1, 21, 1, 30, 1},
+        {1, 1, 0, 0, 10, 1},
+        {2, 1, 0, 0, 1, 3},
+        {3, 1, 0, 0, 20, 1},
+        {4, 1, 0, 0, 11, 3},
+        {5, 1, 0, 0, 31, 3},
+        {6, 1, 0, 0, 30, 3},
+        {7, 1, 0, 0, 0, 1},
+    };
+    put_tasks(made, MOST_WORKERS, MOST_CELLS, heads, 9);
+}
+
 /* ---- the table --------------------------------------------------------- */
 
 #define START_A {0, 0, 5}
+
+/* After number, place, advanced, held, done and finished a run's answer has
+   how many steps were held past the last task, for the last write and for the
+   reads; then the latest held step of each worker, which is one of these. */
+#define NONE 0, 0
+#define PAST 1, 0
+#define WRITE(cell) 2, cell
+#define READS(cell) 3, cell
+#define NONE_OF_7 NONE, NONE, NONE, NONE, NONE, NONE, NONE
 
 const struct named_case named_cases[] = {
     {"flow A, total 22", CALL_CHECK, flow_a, "", START_A, {0, 0, 3, 2, 3, 22}, START_A},
     {"flow A, read", CALL_READ, flow_a, "", START_A, {0, 0, 144, 3, 2, 3}, START_A},
     {"flow A, written", CALL_WRITE, flow_a, "", START_A, {0, 0, 512}, START_A},
     {"P1", CALL_PLAIN, flow_a, "", START_A, {0, 0}, {4660, 13330, 13335}},
-    {"P2", CALL_RUN, flow_a, "", START_A, {0, 0, 0, 0, 0, 0}, START_A},
-    {"P3", CALL_RUN, flow_a, "11", START_A, {0, 0, 1, 1, 0, 0}, START_A},
-    {"P4", CALL_RUN, flow_a, "000", START_A, {0, 0, 3, 0, 0, 0}, {4660, 0, 5}},
-    {"P5", CALL_RUN, flow_a, "000011", START_A, {0, 0, 5, 1, 0, 0}, {4660, 0, 5}},
+    {"P2", CALL_RUN, flow_a, "", START_A, {0, 0, 0, 0, 0, 0, 0, 0, 0, NONE, NONE},
+     START_A},
+    {"P3", CALL_RUN, flow_a, "11", START_A, {0, 0, 1, 1, 0, 0, 0, 1, 0, NONE, WRITE(0)},
+     START_A},
+    {"P4", CALL_RUN, flow_a, "000", START_A, {0, 0, 3, 0, 0, 0, 0, 0, 0, NONE, NONE},
+     {4660, 0, 5}},
+    {"P5", CALL_RUN, flow_a, "000011", START_A,
+     {0, 0, 5, 1, 0, 0, 0, 1, 0, NONE, WRITE(0)}, {4660, 0, 5}},
     {"P5 and the last end: task 1 done", CALL_RUN, flow_a, "0000110", START_A,
-     {0, 0, 6, 1, 1, 0}, {4660, 0, 5}},
-    {"P6", CALL_RUN, flow_a, "0000000", START_A, {0, 0, 6, 1, 1, 0}, {4660, 0, 5}},
+     {0, 0, 6, 1, 1, 0, 0, 1, 0, NONE, WRITE(0)}, {4660, 0, 5}},
+    {"P6", CALL_RUN, flow_a, "0000000", START_A,
+     {0, 0, 6, 1, 1, 0, 0, 1, 0, WRITE(1), NONE}, {4660, 0, 5}},
     {"P7", CALL_RUN, flow_a, "0000001111111110000000", START_A,
-     {0, 0, 22, 0, 3, 1}, {4660, 13330, 13335}},
+     {0, 0, 22, 0, 3, 1, 0, 0, 0, NONE, NONE}, {4660, 13330, 13335}},
     {"task 2, its read ended: not done", CALL_RUN, flow_a, "000000111111", START_A,
      {0, 0, 12, 0, 1, 0}, {4660, 13330, 5}},
     {"task 2, its write's first end: not done", CALL_RUN, flow_a, "0000001111111", START_A,
@@ -235,17 +334,52 @@ const struct named_case named_cases[] = {
     {"task 2, its write posted: done", CALL_RUN, flow_a, "00000011111111", START_A,
      {0, 0, 14, 0, 2, 0}, {4660, 13330, 5}},
     {"P8", CALL_RUN, flow_a, "00000011111111100000000", START_A,
-     {0, 0, 22, 1, 3, 1}, {4660, 13330, 13335}},
+     {0, 0, 22, 1, 3, 1, 1, 0, 0, PAST, NONE}, {4660, 13330, 13335}},
     {"P10, operation 3", CALL_PLAIN, operation_3, "", {4294967295, 1}, {0, 0}, {0, 1}},
     {"P10, operation 4", CALL_PLAIN, operation_4, "", {0, 1}, {0, 0}, {4294967295, 1}},
     {"P10, operation 5", CALL_PLAIN, operation_5, "", {4294967295, 74565}, {0, 0},
      {17699, 74565}},
-    {"the run program", CALL_RUN, run_program, NULL, {0, 0, 0}, {0, 0, 22, 22, 3, 1},
-     {4660, 13330, 13330}},
+    {"the run program", CALL_RUN, run_program, NULL, {0, 0, 0},
+     {0, 0, 22, 22, 3, 1, 14, 8, 0, PAST, PAST}, {4660, 13330, 13330}},
     {"no operation: not done with the last wait", CALL_RUN, no_operation, "0", {7},
      {0, 0, 1, 0, 0, 0}, {7}},
     {"no operation: done with the last end", CALL_RUN, no_operation, "00", {7},
      {0, 0, 2, 0, 1, 1}, {7}},
+    {"no operation: past the only task", CALL_RUN, no_operation, "000", {7},
+     {0, 0, 2, 1, 1, 1, 1, 0, 0, PAST}, {7}},
+    {"held twice, and a worker never named", CALL_RUN, flow_a, "00000000", START_A,
+     {0, 0, 6, 2, 1, 0, 0, 2, 0, WRITE(1), NONE}, {4660, 0, 5}},
+    {"held, then advanced: the latest stays", CALL_RUN, flow_a, "11000001", START_A,
+     {0, 0, 7, 1, 1, 0, 0, 1, 0, NONE, WRITE(0)}, {4660, 0, 5}},
+    {"held, then finished: the latest stays", CALL_RUN, flow_a, "11000000111111110000000",
+     START_A, {0, 0, 22, 1, 3, 1, 0, 1, 0, NONE, WRITE(0)}, {4660, 13330, 13335}},
+    {"the reads of cell 0 differ", CALL_RUN, write_after_read, "111", {7},
+     {0, 0, 2, 1, 0, 0, 0, 0, 1, NONE, READS(0)}, {7}},
+    {"held on cell 2", CALL_RUN, two_waits, "111", START_A,
+     {0, 0, 2, 1, 0, 0, 0, 1, 0, NONE, WRITE(2)}, START_A},
+    {"held on cell 2, then on cell 1", CALL_RUN, two_waits, "1110000111", START_A,
+     {0, 0, 8, 2, 1, 0, 0, 1, 1, NONE, READS(1)}, START_A},
+    {"held on two cells, then past the last task", CALL_RUN, two_waits, "11100001110011111",
+     START_A, {0, 0, 14, 3, 3, 0, 1, 1, 1, NONE, PAST}, START_A},
+    {"a fourth access: the last write of cell 31", CALL_RUN, fourth_after_write_of_31, "111111",
+     START_A, {0, 0, 5, 1, 0, 0, 0, 1, 0, NONE, WRITE(31)}, START_A},
+    {"a fourth access: the reads of cell 31", CALL_RUN, fourth_after_read_of_31, "1111111",
+     START_A, {0, 0, 6, 1, 0, 0, 0, 0, 1, NONE, READS(31)}, START_A},
+    {"a fourth access: the last write of cell 0", CALL_RUN, fourth_after_write_of_0, "111111",
+     START_A, {0, 0, 5, 1, 0, 0, 0, 1, 0, NONE, WRITE(0)}, START_A},
+    {"a fourth access: the reads of cell 0", CALL_RUN, fourth_after_read_of_0, "1111111",
+     START_A, {0, 0, 6, 1, 0, 0, 0, 0, 1, NONE, READS(0)}, START_A},
+    {"worker 7: both differ, so the last write", CALL_RUN, last_worker, "777", START_A,
+     {0, 0, 2, 1, 0, 0, 0, 1, 0, NONE_OF_7, WRITE(31)}, START_A},
+    {"worker 7: the reads differ", CALL_RUN, last_worker, "777000077", START_A,
+     {0, 0, 7, 2, 1, 0, 0, 1, 1, NONE_OF_7, READS(31)}, START_A},
+    {"worker 7: past the last task", CALL_RUN, last_worker, "777000077007777", START_A,
+     {0, 0, 12, 3, 3, 0, 1, 1, 1, NONE_OF_7, PAST}, START_A},
+    {"eight workers, each with its own", CALL_RUN, eight_workers,
+     "111" "22222" "33333" "4444444" "5555555" "666666666" "777777777"
+     "00000000000000000000000000000000", START_A,
+     {0, 0, 69, 8, 2, 0, 1, 4, 3, PAST, WRITE(10), READS(1), WRITE(20), READS(11), WRITE(31),
+      READS(30), WRITE(0)}, START_A},
     {"cells 30 and 31 of 32", CALL_CHECK, cells_30_and_31, "", {0}, {0, 0, 1, 1, 32, 7}, {0}},
     {"cell 31 named under modes 1 and 2", CALL_CHECK, cell_31_twice, "", {0}, {9, 1}, {0}},
     {"cell 31 of mode 2 read at once", CALL_CHECK, cell_31_read_at_once, "", {0}, {11, 1}, {0}},
@@ -266,9 +400,12 @@ const struct named_case named_cases[] = {
     {"10,240 bytes pass the length check", CALL_CHECK, zeros_10240, "", {0}, {3, 0}, {0}},
     {"10,752 bytes", CALL_CHECK, zeros_10752, "", {0}, {1, 0}, {0}},
     {"4 cells for 3", CALL_PLAIN, four_cells, "", START_A, {12, 0}, START_A},
+    {"9 workers, run", CALL_RUN, workers_9, "11", {0}, {4, 0}, {0}},
+    {"4 cells for 3, run", CALL_RUN, four_cells, "11", START_A, {12, 0}, START_A},
     {"schedule 0 2", CALL_RUN, flow_a, "02", START_A, {14, 1}, START_A},
+    {"schedule 1 1 2", CALL_RUN, flow_a, "112", START_A, {14, 2}, START_A},
     {"schedule of 65,536 bytes", CALL_RUN, schedule_65536, NULL, START_A,
-     {0, 0, 22, 65514, 3, 1}, {4660, 13330, 13335}},
+     {0, 0, 22, 65514, 3, 1, 65506, 8, 0, PAST, PAST}, {4660, 13330, 13335}},
     {"schedule of 65,537 bytes", CALL_RUN, schedule_65537, NULL, START_A, {13, 0}, START_A},
     {"rows lent a byte short", CALL_READ, short_output, "", START_A, {16, 0}, START_A},
     {"output a byte short", CALL_WRITE, short_output, "", START_A, {16, 0}, START_A},

@@ -1,6 +1,7 @@
 /*
- * Cases that the scope document (01) names, "A flow on the bench", and some at
- * its limits, with the answers that it asks for.
+ * Cases that the scope document (01) names, "A flow on the bench", some at its
+ * limits, and some for the change requests after it (02), with the answers that
+ * they ask for.
  */
 #ifndef NAMED_CASES_H
 #define NAMED_CASES_H
@@ -13,7 +14,7 @@ struct named_case {
     void (*make)(struct test_case *made); /* the file or the rows */
     const char *schedule;                 /* a digit for each byte */
     uint32_t start[3];
-    uint32_t answer[6];
+    uint32_t answer[MOST_ANSWER_WORDS];
     uint32_t cells[3]; /* after the call */
 };
 

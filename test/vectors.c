@@ -12,7 +12,7 @@
  * and the crate vectors reads it. All numbers are four bytes, low byte first.
  * The number of cases stands first. A case is
  *
- *     its head, 13 numbers:
+ *     its head, 32 numbers:
  *         its call: 1 check, 2 read, 3 write, 4 plain, 5 run
  *         the writer's workers, and its cells; 0 for the other calls
  *         the bytes of the input: the file, or the writer's rows
@@ -20,8 +20,8 @@
  *         check
  *         the bytes of the schedule, and how many of them are stored; 0 for
  *         all calls but run
- *         the six words of the answer, in the order of sflw.h; 0 for words
- *         that the call's answer does not have
+ *         the words of the answer, in the order of sflw.h, then 0 up to 25
+ *         words, as many as a run's answer has
  *     the input
  *     what is lent for writing, as it is before the call
  *     the stored bytes of the schedule, which come over and over again up to
@@ -40,12 +40,13 @@
 #include <stdlib.h>
 #include <string.h>
 
-enum { NUMBERS = 17, ANSWER_WORDS = 6, LARGEST = 3, TOO_LONG = 24 };
+enum { NUMBERS = 17, REASONS = 4, LARGEST = 3, TOO_LONG = 24 };
 
 static const struct calls reference = REFERENCE_CALLS;
 static struct memory memory;
 static struct test_case current;
 static uint32_t met[NUMBERS];
+static uint32_t latest[REASONS]; /* of the workers of accepted runs */
 static uint64_t written;
 
 /* ---- the stream -------------------------------------------------------- */
@@ -109,8 +110,19 @@ static void put_head(size_t stored)
     put_number((uint32_t)current.output_len);
     put_number((uint32_t)current.schedule_len);
     put_number((uint32_t)stored);
-    for (uint32_t i = 0; i < ANSWER_WORDS; i++)
+    for (uint32_t i = 0; i < MOST_ANSWER_WORDS; i++)
         put_number(i < answer_words(current.call) ? answer_at(&memory, i) : 0);
+}
+
+/* Which numbers and reasons the case meets. */
+static void count_case(void)
+{
+    met[memory.returned]++;
+    if (current.call != CALL_RUN || memory.returned != 0)
+        return;
+    sflw_run_answer run = run_answer(&memory);
+    for (uint32_t i = 0; i < current.input[12]; i++)
+        latest[run.latest[i].reason]++;
 }
 
 static void put_case(void)
@@ -128,7 +140,7 @@ static void put_case(void)
         current.output_len = 0;
     if (current.call != CALL_RUN)
         current.schedule_len = 0;
-    met[memory.returned]++;
+    count_case();
     stored = stored_schedule();
     put_head(stored);
     put_bytes(current.input, current.input_len);
@@ -214,6 +226,9 @@ static void report(uint64_t cases)
     fprintf(stderr, "vectors: %" PRIu64 " cases, %" PRIu64 " bytes; met:", cases, written);
     for (uint32_t number = 0; number < NUMBERS; number++)
         fprintf(stderr, " %" PRIu32 ":%" PRIu32, number, met[number]);
+    fprintf(stderr, "; latest reasons:");
+    for (uint32_t reason = 0; reason < REASONS; reason++)
+        fprintf(stderr, " %" PRIu32 ":%" PRIu32, reason, latest[reason]);
     fprintf(stderr, "\n");
 }
 
