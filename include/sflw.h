@@ -3,10 +3,14 @@
  * and the stepped run.
  *
  * Every call fills its answer and returns the answer's number: 0 for success,
- * 1 to 16 for a refusal. The place says where the fault is: a block (from 0),
+ * 1 to 17 for a refusal. The place says where the fault is: a block (from 0),
  * a task (from 1) or the index of a schedule byte (from 0), and is 0 where
  * none is named. With a refusal every count in the answer is 0, no worker was
  * held, and all other lent memory is as it was.
+ *
+ * A flow file has the refusals 1; then 2 to 5, block by block; then 6 to 11 and
+ * 17, task by task. 17 is a cell of mode 2, write only, that no operation of
+ * its task writes.
  *
  * Lengths are in bytes, but for cells_len, which counts cells of 32 bits. A
  * pointer must not be null, even with length 0. Nothing that is lent for
@@ -84,15 +88,15 @@ typedef struct sflw_run_answer {
 } sflw_run_answer;              /* 25 words of 32 bits */
 
 /*
- * Checks a flow file. Refusals 1 to 11. On success it answers the flow's
+ * Checks a flow file. Refusals: the file's. On success it answers the flow's
  * sizes and its total.
  */
 uint32_t sflw_check(const uint8_t *file, size_t file_len,
                     sflw_check_answer *answer);
 
 /*
- * Reads the rows out of a flow file, 48 bytes a task, task 1 first. Refusals
- * 1 to 11, then 16 if the rows do not fit. Bytes of rows after the last row
+ * Reads the rows out of a flow file, 48 bytes a task, task 1 first. Refusals:
+ * the file's, then 16 if the rows do not fit. Bytes of rows after the last row
  * stay as they were.
  */
 uint32_t sflw_read(const uint8_t *file, size_t file_len,
@@ -101,9 +105,9 @@ uint32_t sflw_read(const uint8_t *file, size_t file_len,
 
 /*
  * Writes a flow file from its rows, its workers and its cells, of which any
- * value may be given. Refusals 15, then 4, then 6 to 11 task by task, then 16
- * if the blocks do not fit. Bytes of out after the last block stay as they
- * were.
+ * value may be given. Refusals: 15, then 4, then 6 to 11 and 17 task by task,
+ * then 16 if the blocks do not fit. Bytes of out after the last block stay as
+ * they were.
  */
 uint32_t sflw_write(const uint8_t *rows, size_t rows_len,
                     uint32_t workers, uint32_t cells,
@@ -112,8 +116,8 @@ uint32_t sflw_write(const uint8_t *rows, size_t rows_len,
 
 /*
  * The plain run: the tasks one after another, in place on the lent cells,
- * which hold the start before and the result after. Refusals 1 to 11, then 12
- * if the cells lent are not as many as the flow's.
+ * which hold the start before and the result after. Refusals: the file's, then
+ * 12 if the cells lent are not as many as the flow's.
  */
 uint32_t sflw_plain(const uint8_t *file, size_t file_len,
                     uint32_t *cells, size_t cells_len,
@@ -121,10 +125,10 @@ uint32_t sflw_plain(const uint8_t *file, size_t file_len,
 
 /*
  * The stepped run: each byte of the schedule names the worker that tries its
- * next step. In place on the lent cells, as the plain run. Refusals 1 to 11,
- * then 12, then 13 if the schedule is over 65,536 bytes, then 14 at its first
- * byte that names no worker. On success it answers the counts, why steps were
- * held, and the latest held step of each worker.
+ * next step. In place on the lent cells, as the plain run. Refusals: the
+ * file's, then 12, then 13 if the schedule is over 65,536 bytes, then 14 at its
+ * first byte that names no worker. On success it answers the counts, why steps
+ * were held, and the latest held step of each worker.
  */
 uint32_t sflw_run(const uint8_t *file, size_t file_len,
                   uint32_t *cells, size_t cells_len,

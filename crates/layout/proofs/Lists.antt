@@ -1,6 +1,6 @@
 -- Laws of `each` and `all`: what stands where, one member more, and what a test of all tells of one.
-use mathlib.Core.Path.{_≡_, refl, sym, ap, _∙_}
-use mathlib.Core.Bool.{Bool, true, false, _&&_, true≢false, false≢true}
+use mathlib.Core.Path.{_≡_, refl, sym, ap, ap₂, _∙_}
+use mathlib.Core.Bool.{Bool, true, false, _&&_, _||_, true≢false, false≢true}
 use mathlib.Core.List.{List, [], _∷_, _++_}
 use Prim.Native.Nat.{ℕ, zero, suc, _+_, _<_}
 use native.Mathlib.Nat.{not-suc-le-zero, le-of-suc-le-suc}
@@ -30,6 +30,27 @@ and-right false y h = absurd (false≢true h)
 pub and-both : (x y : Bool) → x ≡ true → y ≡ true → (x && y) ≡ true
 and-both true y p q = q
 and-both false y p q = p
+
+-- ---- two tests
+
+-- either of two and a third
+pub or-swap : (x y z : Bool) → (y || (x || z)) ≡ ((x || y) || z)
+or-swap true true z = refl
+or-swap true false z = refl
+or-swap false y z = refl
+
+-- two that imply one another
+pub same-test : (p q : Bool) → (p ≡ true → q ≡ true) → (q ≡ true → p ≡ true) → p ≡ q
+same-test true q there back = sym (there refl)
+same-test false true there back = back refl
+same-test false false there back = refl
+
+-- two that agree at each index
+pub all-same : {A B : Type 0} (p : A → Bool) (q : B → Bool) (n : ℕ) (f : ℕ → A) (g : ℕ → B) → ((i : ℕ) → p (f i) ≡ q (g i))
+    → all p (each n f) ≡ all q (each n g)
+unfolding each all
+all-same p q zero f g same = refl
+all-same p q (suc n) f g same = ap₂ _&&_ (same 0) (all-same p q n (λ i. f (suc i)) (λ i. g (suc i)) (λ i. same (suc i)))
 
 module _ {A : Type 0} where
   -- ---- where each member stands

@@ -1,5 +1,5 @@
--- Laws of a row's accesses and operations: what rules 7, 8 and 10 tell of its bytes, and what rules 9 and 11 say of the accesses
--- or operations from some index on.
+-- Laws of a row's accesses and operations: what rules 7, 8 and 10 tell of its bytes, what rules 9 and 11 say of the accesses
+-- or operations from some index on, and what rule 17 says of a cell.
 use mathlib.Core.Path.{_≡_, refl, sym, ap, _∙_}
 use mathlib.Core.Bool.{Bool, true, false, not, cond, _&&_, _||_}
 use mathlib.Core.List.{List, [], _∷_}
@@ -7,14 +7,14 @@ use Prim.Native.Nat.{ℕ, zero, suc, _+_, _-_, _*_, _≤_, _<_}
 use native.Mathlib.Nat.{lt-of-lt-of-le}
 use native.Mathlib.Omega.{arith}
 use native.Mathlib.Numerals.{add-one}
-use borrow.Author.Tests.{ltb-true, lt-ltb, leb-true, ne-eqb}
+use borrow.Author.Tests.{eqb-true, ltb-true, lt-ltb, leb-true, ne-eqb}
 use lib.ListN.{length, drop, drop-of-length-le}
 use lib.Seq.{drop-cons}
 use lib.Dec.{eqb, leb, ltb}
 use Rattle.layout.specs.Lists.{each, all, any}
 use Rattle.layout.specs.Bytes.{at, part, allZero}
 use Rattle.layout.specs.Flow.{Access, Operation, mostAccesses, mostOperations, upTo}
-use Rattle.layout.specs.Row.{accessAt, operationAt, spareAt, taskOf, countsSound, accessInRange, accessesSound, modeOf, names, namedOnce, zerosKept, operationSound, operationsSound, keepsModes, allKeepModes}
+use Rattle.layout.specs.Row.{accessAt, operationAt, spareAt, taskOf, countsSound, accessInRange, accessesSound, modeOf, names, namedOnce, zerosKept, operationSound, operationsSound, keepsModes, allKeepModes, writeMade}
 use Rattle.layout.proofs.Lists.{and-false, and-left, and-right, and-both, each-length, each-at, all-keeps}
 
 -- ---- a list from some index on
@@ -169,3 +169,25 @@ keep-next accesses n f i h =
     ap (allKeepModes accesses (earlier i f)) (each-drop n f i h)
     ∙ ap (λ (k : ℕ). keepsModes accesses (earlier i f) (f i) && allKeepModes accesses (earlier k f) (drop (i + 1) (each n f)))
     (sym (add-one i))
+
+-- ---- rule 17, of any cell
+
+-- a cell under the mode that the accesses give it
+abbrev pub namedAs : List Access → ℕ → Access
+namedAs accesses cell = record { cell = cell; mode = modeOf accesses cell }
+
+-- what the rule asks of every access, it asks of every cell
+pub write-of : (accesses : List Access) (operations : List Operation) (cell : ℕ) → all (writeMade operations) accesses ≡ true
+    → writeMade operations (namedAs accesses cell) ≡ true
+unfolding modeOf all
+write-of [] operations cell made = refl
+write-of (x ∷ xs) operations cell made =
+    go (eqb (x .cell) cell) refl
+    (write-of xs operations cell (and-right (writeMade operations x) (all (writeMade operations) xs) made))
+  where
+    go : (here : Bool) → eqb (x .cell) cell ≡ here → writeMade operations (namedAs xs cell) ≡ true
+        → writeMade operations (record { cell = cell; mode = cond here (x .mode) (modeOf xs cell) }) ≡ true
+    go true e later =
+        ap (λ (c : ℕ). writeMade operations (record { cell = c; mode = x .mode })) (sym (eqb-true (x .cell) cell e))
+        ∙ and-left (writeMade operations x) (all (writeMade operations) xs) made
+    go false e later = later

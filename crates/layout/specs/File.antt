@@ -51,11 +51,11 @@ abbrev pub blockNumber : List ℕ → ℕ → ℕ
 blockNumber file index =
     blockRefusal (blocksOf file) (tasksOf file) (workersOf file) (cellsOf file) index (blockAt file index)
 
--- 6 to 11 on one task
+-- 6 to 11 and 17 on one task
 abbrev pub rowNumber : List ℕ → ℕ → ℕ
 rowNumber file task = rowRefusal (workersOf file) (cellsOf file) (rowAt file task)
 
--- "1; then 2 to 5 on block 0, then on block 1, and so on; then 6 to 11 on task 1, then task 2, and so on"
+-- "1; then 2 to 5 on block 0, then on block 1, and so on; then 6 to 11 on task 1, then task 2, and so on"; 17 comes "before 6 on the next"
 unfoldable pub fileAnswer : List ℕ → Answer
 fileAnswer file =
     orElse (refusal (unless (lengthSound (length file)) 1) 0)

@@ -1,4 +1,4 @@
--- The rules of 01 for the file. Each module opens with what it defines and with the part of 01 that it stands for.
+-- The rules of 01 and 02 for the file. Each module opens with what it defines and with the part of 01 or 02 that it stands for.
 pub mod Lists
 pub mod Bytes
 pub mod Refusal
@@ -8,3 +8,4 @@ pub mod Row
 pub mod Block
 pub mod File
 pub mod Write
+pub mod Cases

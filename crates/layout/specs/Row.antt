@@ -1,6 +1,6 @@
--- A row of 48 bytes and refusals 6 to 11 (01, "The file" and "Numbers of refusal"): the task that a row holds, what each rule
--- asks of it, and the first rule that it breaks. A rule on what a task may do is stated over the task; a rule on bytes that must
--- be zero, over the row.
+-- A row of 48 bytes and refusals 6 to 11 and 17 (01, "The file" and "Numbers of refusal"; 02, Q-6): the task that a row holds, what
+-- each rule asks of it, and the first rule that it breaks. A rule on what a task may do is stated over the task; a rule on bytes that
+-- must be zero, over the row.
 use mathlib.Core.Bool.{Bool, true, not, cond, _&&_, _||_}
 use mathlib.Core.List.{List, [], _∷_, _++_}
 use Prim.Native.Nat.{ℕ, _+_, _*_}
@@ -135,7 +135,15 @@ operationsSound cells row =
 abbrev pub modesSound : Task → Bool
 modesSound task = allKeepModes (task .accesses) [] (task .operations)
 
--- the first of 6 to 11 that a row breaks; 0 where it breaks none
+-- a cell of mode 2 is written by one of the operations; "Mode 3 cells need not be written"
+abbrev pub writeMade : List Operation → Access → Bool
+writeMade operations access = not (eqb (access .mode) 2) || written operations (access .cell)
+
+-- 17: "a task in which a mode 2 cell is written by no operation"
+abbrev pub writesMade : Task → Bool
+writesMade task = all (writeMade (task .operations)) (task .accesses)
+
+-- the first of 6 to 11 that a row breaks, or 17, "directly after 11 on the same task"; 0 where it breaks none
 unfoldable pub rowRefusal : ℕ → ℕ → List ℕ → ℕ
 rowRefusal workers cells row =
     firstBroken
@@ -145,4 +153,5 @@ rowRefusal workers cells row =
     ∷ (9, namedOnce (taskOf row .accesses))
     ∷ (10, operationsSound cells row)
     ∷ (11, modesSound (taskOf row))
+    ∷ (17, writesMade (taskOf row))
     ∷ [])

@@ -40,7 +40,7 @@ rowOfTask rows task = part (48 * (task - 1)) (48 * (task - 1) + 48) rows
 abbrev pub rowsSound : ℕ → Bool
 rowsSound bytes = leb 1 bytes && leb bytes mostRowBytes && eqb (bytes % 48) 0
 
--- "The writer, given rows, workers and cells, has 15, 4, 6 to 11, 16. In its 4 only workers and cells can be at fault"
+-- "The writer, given rows, workers and cells, has 15, 4, 6 to 11, 16. In its 4 only workers and cells can be at fault"; 17 "directly after 11"
 unfoldable pub rowsAnswer : List ℕ → ℕ → ℕ → Answer
 rowsAnswer rows workers cells =
     orElse (refusal (unless (rowsSound (length rows)) 15) 0)

@@ -36,6 +36,7 @@ task-sound workers cells row k =
           all-pass (operationInRange cells) (at row 2) (operationAt row)
           (λ i l. and-left _ _ (all-keeps (operationSound cells row) (at row 2) (λ j. j) i l (k .operations)));
       modes-kept = k .modes;
+      writes-made = k .writes;
     }
 
 -- ---- what "accepted as a flow" says

@@ -1,5 +1,5 @@
 -- What an answer of success says, since it is given only where no refusal is met: to the file check, that rule 1 is kept, rules
--- 2 to 5 by every block and rules 6 to 11 by every row; to the writer's, that rules 15 and 4 are, and 6 to 11 by every row.
+-- 2 to 5 by every block and a row's rules by every row; to the writer's, that rules 15 and 4 are, and a row's rules by every row.
 use mathlib.Core.Path.{_≡_, ap, _∙_}
 use mathlib.Core.List.{List}
 use Prim.Native.Nat.{ℕ, _+_, _%_, _<_, _≤_}

@@ -1,4 +1,4 @@
--- A row that keeps rules 6 to 11 is the row of its task: rules 7, 8 and 10 make every byte zero that the task doesn't hold, and
+-- A row that keeps its rules is the row of its task: rules 7, 8 and 10 make every byte zero that the task doesn't hold, and
 -- the two bytes of k come back from k since they are below 256.
 use mathlib.Core.Path.{_≡_, refl, sym, ap, ap₂, _∙_}
 use mathlib.Core.Bool.{true}
@@ -13,7 +13,7 @@ use Rattle.layout.specs.Bytes.{IsBytes, at, word, part, allZero, padded}
 use Rattle.layout.specs.Flow.{mostAccesses, mostOperations}
 use Rattle.layout.specs.Row.{accessAt, operationAt, spareAt, taskOf, accessBytes, operationBytes, rowOf}
 use Rattle.layout.specs.Row.{accessInRange, accessesSound, namedOnce, operationInRange, operationSound, operationsSound}
-use Rattle.layout.specs.Row.{modesSound, rowRefusal}
+use Rattle.layout.specs.Row.{modesSound, writesMade, rowRefusal}
 use Rattle.layout.proofs.Lists.{and-left, and-right, each-length, all-keeps}
 use Rattle.roundtrip.proofs.Parts.{part-bytes, padded-back, word-back}
 use Rattle.roundtrip.proofs.Pieces.{joined-cut}
@@ -36,6 +36,7 @@ pub record RowKept (workers cells : ℕ) (row : List ℕ) : Type 0 where
   pub operations : all (operationSound cells row) (each (at row 2) (λ i. i)) ≡ true
   pub operations-rest : allZero (part (12 + 6 * at row 2) 48 row) ≡ true
   pub modes : modesSound (taskOf row) ≡ true
+  pub writes : writesMade (taskOf row) ≡ true
 
 module _ (workers cells : ℕ) (row : List ℕ) where
   pub row-keeps : rowRefusal workers cells row ≡ 0 → RowKept workers cells row
@@ -52,6 +53,7 @@ module _ (workers cells : ℕ) (row : List ℕ) where
         operations = and-left _ _ (rule 4);
         operations-rest = and-right (all (operationSound cells row) (each (at row 2) (λ i. i))) _ (rule 4);
         modes = rule 5;
+        writes = rule 6;
       }
 
   -- ---- a row that keeps the rules is the row of its task

@@ -1,4 +1,4 @@
--- What holds of a flow that a file is accepted as (01, "What is built", and refusals 4 and 6 to 11), said of the flow alone: no
+-- What holds of a flow that a file is accepted as (01, "What is built", and refusals 4, 6 to 11 and 17), said of the flow alone: no
 -- byte is named.
 use mathlib.Core.Path.{_≡_}
 use mathlib.Core.Bool.{true}
@@ -6,7 +6,7 @@ use Prim.Native.Nat.{ℕ, _<_, _≤_}
 use lib.ListN.{length, getD}
 use Rattle.layout.specs.Lists.{all}
 use Rattle.layout.specs.Flow.{Task, Flow, mostAccesses, mostOperations, WithinLimits}
-use Rattle.layout.specs.Row.{accessInRange, namedOnce, operationInRange, modesSound}
+use Rattle.layout.specs.Row.{accessInRange, namedOnce, operationInRange, modesSound, writesMade}
 
 -- a task of a flow with so many workers and cells
 pub record TaskSound (workers cells : ℕ) (task : Task) : Type 0 where
@@ -18,6 +18,7 @@ pub record TaskSound (workers cells : ℕ) (task : Task) : Type 0 where
   pub named-once : namedOnce (task .accesses) ≡ true
   pub operations-in-range : all (operationInRange cells) (task .operations) ≡ true
   pub modes-kept : modesSound task ≡ true
+  pub writes-made : writesMade task ≡ true
 
 pub record Sound (flow : Flow) : Type 0 where
   pub sizes : WithinLimits (length (flow .tasks)) (flow .workers) (flow .cells)

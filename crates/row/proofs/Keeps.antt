@@ -1,4 +1,5 @@
--- Rule 11 by the table of modes: what all operations keep to is what those from some index on keep to, after the ones before it.
+-- Rule 11 by the table of modes: what all operations keep to is what those from some index on keep to, after the ones before it; and
+-- the table that all leave is the one that those leave.
 use mathlib.Core.Path.{_≡_, refl, sym, ap, _∙_}
 use mathlib.Core.Bool.{Bool, true, false, _&&_}
 use mathlib.Core.List.{List, []}
@@ -9,8 +10,8 @@ use lib.ListN.{drop}
 use Rattle.layout.specs.Bytes.{at}
 use Rattle.layout.specs.Flow.{mostCells}
 use Rattle.layout.specs.Row.{operationAt, taskOf, operationsSound, keepsModes, allKeepModes, modesSound}
-use Rattle.layout.proofs.Modes.{each-drop-all, operation-cells, earlier, keep-next}
-use Rattle.row.specs.Table.{modeIn, withMode, keepsTable}
+use Rattle.layout.proofs.Modes.{each-drop, each-drop-all, operation-cells, earlier, keep-next}
+use Rattle.row.specs.Table.{modeIn, withMode, tableOf, keepsTable, tableAfter, tableLeft}
 use Rattle.row.proofs.Table.{Table, table-operation, keeps-same}
 
 -- what is known once the operations before i have kept to the modes
@@ -19,10 +20,12 @@ pub record KeptSoFar (row : List ℕ) (i modes : ℕ) : Type 0 where
   pub table : Table (taskOf row .accesses) (earlier i (operationAt row)) modes
   pub rest : modesSound (taskOf row)
       ≡ allKeepModes (taskOf row .accesses) (earlier i (operationAt row)) (drop i (taskOf row .operations))
+  pub left : tableLeft (taskOf row) ≡ tableAfter modes (drop i (taskOf row .operations))
 
-pub kept-none : (row : List ℕ) (modes : ℕ) → Table (taskOf row .accesses) [] modes → KeptSoFar row 0 modes
+pub kept-none : (row : List ℕ) → Table (taskOf row .accesses) [] (tableOf (taskOf row .accesses))
+    → KeptSoFar row 0 (tableOf (taskOf row .accesses))
 unfolding earlier
-kept-none row modes table = record { most = zero-le; table = table; rest = refl }
+kept-none row table = record { most = zero-le; table = table; rest = refl; left = refl }
 
 -- one operation more
 pub record OperationTurn (row : List ℕ) (i modes : ℕ) : Type 0 where
@@ -52,6 +55,10 @@ module _ {row : List ℕ} {i modes : ℕ} (step : OperationTurn row i modes) whe
   pub breaks : asked ≡ false → modesSound (taskOf row) ≡ false
   breaks broken = rw broken at next
 
+  left-next : tableLeft (taskOf row) ≡ tableAfter (withMode modes (at row (13 + 6 * i)) 1) (drop (i + 1) (taskOf row .operations))
+  unfolding taskOf tableAfter
+  left-next = step .kept .left ∙ ap (tableAfter modes) (each-drop (at row 2) (operationAt row) i (step .more))
+
   pub kept-next : asked ≡ true → KeptSoFar row (i + 1) (withMode modes (at row (13 + 6 * i)) 1)
   unfolding earlier
   kept-next keeps =
@@ -61,10 +68,19 @@ module _ {row : List ℕ} {i modes : ℕ} (step : OperationTurn row i modes) whe
             rw add-one
             (table-operation (taskOf row .accesses) (earlier i (operationAt row)) (operationAt row i) modes (sym answers ∙ keeps) (step .kept .table));
         rest = rw keeps at next;
+        left = left-next;
       }
 
 -- once all have
-pub kept-all : (row : List ℕ) (i modes : ℕ) → at row 2 ≤ i → KeptSoFar row i modes → modesSound (taskOf row) ≡ true
-unfolding taskOf allKeepModes
-kept-all row i modes h kept =
-    kept .rest ∙ ap (allKeepModes (taskOf row .accesses) (earlier i (operationAt row))) (each-drop-all (at row 2) (operationAt row) i h)
+module _ (row : List ℕ) (i modes : ℕ) (h : at row 2 ≤ i) (kept : KeptSoFar row i modes) where
+  none-left : drop i (taskOf row .operations) ≡ []
+  unfolding taskOf
+  none-left = each-drop-all (at row 2) (operationAt row) i h
+
+  pub kept-all : modesSound (taskOf row) ≡ true
+  unfolding allKeepModes
+  kept-all = kept .rest ∙ ap (allKeepModes (taskOf row .accesses) (earlier i (operationAt row))) none-left
+
+  pub left-all : modes ≡ tableLeft (taskOf row)
+  unfolding tableAfter
+  left-all = sym (kept .left ∙ ap (tableAfter modes) none-left)

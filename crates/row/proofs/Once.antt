@@ -1,6 +1,6 @@
 -- Rule 9 by the table of modes: the accesses from some index on name no cell twice, and the table is theirs.
-use mathlib.Core.Path.{_≡_, refl, sym, ap, _∙_}
-use mathlib.Core.Bool.{Bool, true, false, not, cond, _&&_, and-true, Bool·not-not}
+use mathlib.Core.Path.{_≡_, sym, ap, _∙_}
+use mathlib.Core.Bool.{Bool, true, not, cond, _&&_, and-true, Bool·not-not}
 use mathlib.Core.List.{List, _∷_}
 use Prim.Native.Nat.{ℕ, zero, suc, _+_, _-_, _*_, _≤_, _<_}
 use native.Mathlib.Nat.{le-refl, not-suc-le-zero}
@@ -86,15 +86,13 @@ pub passed-all : (row : List ℕ) (j modes : ℕ) → j ≤ 0 → Passed row j m
 passed-all row zero modes h passed = rw (passed .once) (passed .table)
 passed-all row (suc j) modes h passed = absurd (not-suc-le-zero h)
 
--- ---- what the answer tells
-
 -- the table of a row with an access isn't 0
 some-access : (n : ℕ) (f : ℕ → Access) → 1 ≤ n → 1 ≤ f 0 .mode → tableOf (each n f) ≡ 0 → ⊥
 unfolding each tableOf
 some-access zero f h m = absurd (not-suc-le-zero h)
 some-access (suc n) f h m = table-some (tableOf (each n (λ i. f (suc i)))) (f 0 .cell) (f 0 .mode) m
 
-table-named : (row : List ℕ) → countsSound row ≡ true → all (accessInRange mostCells) (taskOf row .accesses) ≡ true
+pub table-named : (row : List ℕ) → countsSound row ≡ true → all (accessInRange mostCells) (taskOf row .accesses) ≡ true
     → tableOf (taskOf row .accesses) ≡ 0
     → ⊥
 unfolding taskOf
@@ -102,19 +100,3 @@ table-named row counts sound =
     let some = leb-true 1 (at row 1) (and-left _ _ (and-left _ _ (and-left _ _ counts))) in
     some-access (at row 1) (accessAt row) some
     (access-mode mostCells (accessAt row 0) (all-keeps (accessInRange mostCells) (at row 1) (accessAt row) 0 some sound) .0)
-
-module _ (row : List ℕ) {modes : ℕ} (is : modes ≡ modesTold row) where
-  pub told-once : (modes ≡ 0 → ⊥) → (namedOnce (taskOf row .accesses) ≡ true) × (modes ≡ tableOf (taskOf row .accesses))
-  told-once some = go (namedOnce (taskOf row .accesses)) is
-    where
-      go : (once : Bool) → modes ≡ cond once (tableOf (taskOf row .accesses)) 0 → (once ≡ true) × (modes ≡ tableOf (taskOf row .accesses))
-      go true e = (refl, e)
-      go false e = absurd (some e)
-
-  pub told-twice : countsSound row ≡ true → all (accessInRange mostCells) (taskOf row .accesses) ≡ true → modes ≡ 0
-      → namedOnce (taskOf row .accesses) ≡ false
-  told-twice counts sound none = go (namedOnce (taskOf row .accesses)) is
-    where
-      go : (once : Bool) → modes ≡ cond once (tableOf (taskOf row .accesses)) 0 → once ≡ false
-      go true e = absurd (table-named row counts sound (sym e ∙ none))
-      go false e = refl

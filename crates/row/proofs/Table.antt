@@ -36,7 +36,7 @@ mode-first accesses cell =
     ap (λ (t : Bool). cond t 3 (modeOf accesses cell)) (and-false (eqb (modeOf accesses cell) 2))
 
 -- a cell that isn't named has no mode
-unnamed : (cells : ℕ) (xs : List Access) (cell : ℕ) → all (accessInRange cells) xs ≡ true → not (names xs cell) ≡ true → modeOf xs cell ≡ 0
+pub unnamed : (cells : ℕ) (xs : List Access) (cell : ℕ) → all (accessInRange cells) xs ≡ true → not (names xs cell) ≡ true → modeOf xs cell ≡ 0
 unnamed cells xs cell within once =
     eqb-true (modeOf xs cell) 0
     (not-false (eqb (modeOf xs cell) 0) (sym (names-mode cells xs cell within) ∙ not-true (names xs cell) once))

@@ -6,7 +6,8 @@ use mathlib.Core.List.{List, [], _∷_}
 use Prim.Native.Nat.{ℕ, _*_, _/_, _%_, _^_}
 use lib.Bits.{bitOr}
 use lib.Dec.{eqb}
-use Rattle.layout.specs.Flow.{Access}
+use Rattle.layout.specs.Lists.{each, all}
+use Rattle.layout.specs.Flow.{Access, Operation, Task, mostCells}
 use Rattle.layout.specs.Row.{mayWrite, readsA, readsB}
 
 -- what the table has for a cell
@@ -30,3 +31,20 @@ readable mode = eqb mode 1 || eqb mode 3
 abbrev pub keepsTable : ℕ → ℕ → ℕ → Bool
 keepsTable code ofA ofB =
     mayWrite ofA && (not (readsA code) || readable ofA) && (not (readsB code) || readable ofB)
+
+-- the table after operations, each of which sets the digit of mode 1 for the cell that it writes
+unfoldable pub tableAfter : ℕ → List Operation → ℕ
+tableAfter modes [] = modes
+tableAfter modes (o ∷ later) = tableAfter (withMode modes (o .a) 1) later
+
+-- the table that a task's operations leave of its accesses'
+abbrev pub tableLeft : Task → ℕ
+tableLeft task = tableAfter (tableOf (task .accesses)) (task .operations)
+
+-- a cell that the table still has under mode 2 is owed its write
+abbrev pub owed : ℕ → ℕ → Bool
+owed modes cell = eqb (modeIn modes cell) 2
+
+-- and no cell is
+unfoldable pub noneOwed : ℕ → Bool
+noneOwed modes = all (λ cell. not (owed modes cell)) (each mostCells (λ cell. cell))

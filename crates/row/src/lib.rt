@@ -1,4 +1,4 @@
-// The check of a row: refusals 6 to 11. The row is read where the caller keeps its 48 bytes.
+// The check of a row: refusals 6 to 11 and 17. The row is read where the caller keeps its 48 bytes.
 use flow::Flow;
 ghost use mathlib.Core.Path.{_≡_};
 ghost use mathlib.Core.Bool.{true, cond};
@@ -8,7 +8,7 @@ ghost use Rattle.layout.specs.Lists.{each, all};
 ghost use Rattle.layout.specs.Flow.{mostTasks, mostCells, mostAccesses, mostOperations};
 ghost use Rattle.layout.specs.File.{rowStart};
 ghost use Rattle.layout.specs.Row.{accessAt, taskOf, ownerSound, countsSound, accessInRange, accessesSound, namedOnce, operationSound, operationsSound, modesSound, rowRefusal};
-ghost use Rattle.row.specs.Table.{modeIn, withMode, tableOf, keepsTable};
+ghost use Rattle.row.specs.Table.{modeIn, withMode, tableOf, keepsTable, tableLeft, noneOwed};
 
 // The byte of a file at which a task's row starts: 48 bytes on from the row before it, and 32 more where a block ends in between. It is
 // worked out with one division and no remainder. A worker that goes past the last task asks where one more row would start.
@@ -181,15 +181,16 @@ fn keeps_modes(code: u8, of_a: u64, of_b: u64) -> bool
     may_write & (!reads_a | ((of_a == 1) | (of_a == 3))) & (!reads_b | ((of_b == 1) | (of_b == 3)))
 }
 
-// 11: every operation keeps to the modes. From then on the cell that it wrote may be read.
-fn all_keep_modes(row: &[u8], table: u64) -> bool
+// 11: every operation keeps to the modes. From then on the cell that it wrote may be read. The table as they leave it; 0 where one
+// doesn't.
+fn modes_left(row: &[u8], table: u64) -> u64
     requires { ⌜ length (now row) ≡ 48 ⌝ }
     requires { ⌜ countsSound (now row) ≡ true ⌝ }
     requires { ⌜ all (accessInRange mostCells) (taskOf (now row) .accesses) ≡ true ⌝ }
     requires { ⌜ namedOnce (taskOf (now row) .accesses) ≡ true ⌝ }
     requires { ⌜ operationsSound mostCells (now row) ≡ true ⌝ }
     requires { ⌜ table ≡ tableOf (taskOf (now row) .accesses) ⌝ }
-    ensures { λ r. ⌜ r ≡ modesSound (taskOf (now (row .entry))) ⌝ }
+    ensures { λ r. ⌜ r ≡ cond (modesSound (taskOf (now (row .entry)))) (tableLeft (taskOf (now (row .entry)))) 0 ⌝ }
 {
     let count = octets::index(row[2]);
     let mut modes = table;
@@ -199,15 +200,23 @@ fn all_keep_modes(row: &[u8], table: u64) -> bool
         let of_a = mode_in(modes, a);
         let of_b = mode_in(modes, row[14 + 6 * i]);
         if !keeps_modes(row[12 + 6 * i], of_a, of_b) {
-            return false;
+            return 0;
         }
         modes = with_mode(modes, a, 1);
         i += 1;
     }
-    true
+    modes
 }
 
-// The first of 6 to 11 that the row breaks; 0 where it breaks none.
+// 17: no cell of the table is left under mode 2. All cells are asked at once: mode 2 alone has an upper digit without the lower.
+fn none_owed(modes: u64) -> bool
+    ensures { λ r. ⌜ r ≡ noneOwed modes ⌝ }
+{
+    let uppers = (modes >> 1) & 0x5555555555555555;
+    (modes | uppers) == modes
+}
+
+// The first of 6 to 11 that the row breaks, or 17; 0 where it breaks none.
 pub fn refusal(row: &[u8], workers: u32, cells: u32) -> u32
     requires { ⌜ length (now row) ≡ 48 ⌝ }
     requires { ⌜ cells ≤ mostCells ⌝ }
@@ -229,8 +238,12 @@ pub fn refusal(row: &[u8], workers: u32, cells: u32) -> u32
     if !operations_sound(row, cells) {
         return 10;
     }
-    if !all_keep_modes(row, modes) {
+    let left = modes_left(row, modes);
+    if left == 0 {
         return 11;
+    }
+    if !none_owed(left) {
+        return 17;
     }
     0
 }

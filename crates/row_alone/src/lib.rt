@@ -6,7 +6,7 @@ ghost use lib.Dec.{leb};
 ghost use Rattle.layout.specs.Flow.{mostCells};
 ghost use Rattle.layout.specs.Row.{rowRefusal};
 
-// The first of 6 to 11 that a row breaks, 0 where it breaks none; 4 where there are more cells than a flow can have.
+// The first of 6 to 11 that a row breaks, or 17, 0 where it breaks none; 4 where there are more cells than a flow can have.
 #[no_mangle]
 pub extern "C" fn row_alone(row: &[u8; 48], workers: u32, cells: u32) -> u32
     ensures { λ r. ⌜ r ≡ cond (leb cells mostCells) (rowRefusal workers cells (now (row .entry))) 4 ⌝ }

@@ -1,4 +1,4 @@
--- An accepted flow with as many cells as its own and a schedule of its workers has all that demand 3 asks, by the rules 6 to 11 that each row keeps. Tasks are numbered from 1, so their numbers differ, and operation 1 alone doesn't read b.
+-- An accepted flow with as many cells as its own and a schedule of its workers has all that demand 3 asks, by the rules that each row keeps. Tasks are numbered from 1, so their numbers differ, and operation 1 alone doesn't read b.
 use mathlib.Core.Path.{_≡_, refl, sym, ap, subst, _∙_}
 use mathlib.Core.Bool.{Bool, true, false, _||_, false≢true}
 use mathlib.Core.List.{List}

@@ -8,13 +8,14 @@ use Rattle.layout.specs.Fletcher.{after}
 use Rattle.layout.specs.Row.{taskOf, modeOf, written, keepsModes, allKeepModes, accessesSound, names, namedOnce, operationsSound, rowRefusal}
 use Rattle.layout.specs.Block.{blockRefusal, bodyOf, blockOf}
 use Rattle.layout.specs.File.{fileAnswer, flowOf, checkedAs}
+use Rattle.layout.specs.Cases.{Case}
 use Rattle.steps.specs.Operations.{becomes}
 use Rattle.steps.specs.Plain.{afterOperations, afterTasks}
 use Rattle.steps.specs.Step.{ofEach, ownSteps, outcome, registerAll, change, attempted, ownStep, stepFrom, step}
 use Rattle.steps.specs.Run.{counted, runFrom, doneFrom, finished, accessSteps, totalOf}
 use Rattle.steps.specs.Held.{namedFrom, heldFor, latter, latestOf}
 use Rattle.steps.specs.Answers.{plainAnswer, plainCells, runAnswer, runTold, runHeld, runCells}
-use Rattle.steps.specs.Bench.{Case, head, row1, row2, row3, flowA, plainOf, ranOn, heldNumbers, heldOn, readThenWritten, heldByReads, latest, postedOn, sumsOf, madeOn, unposted, whole, bench}
+use Rattle.steps.specs.Bench.{head, row1, row2, row3, flowA, plainOf, ranOn, heldNumbers, heldOn, readThenWritten, heldByReads, latest, postedOn, sumsOf, madeOn, unposted, whole, bench}
 
 -- every case of the table gives what is expected
 pub bench-holds : map (λ (c : Case). c .got) bench ≡ map (λ (c : Case). c .expected) bench

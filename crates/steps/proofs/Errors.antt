@@ -2,11 +2,11 @@
 use mathlib.Core.Path.{_≡_, refl}
 use mathlib.Core.List.{map}
 use Rattle.layout.specs.Lists.{each, all}
+use Rattle.layout.specs.Cases.{Case}
 use Rattle.steps.specs.Operations.{becomes}
 use Rattle.steps.specs.Plain.{afterOperations, afterTasks}
 use Rattle.steps.specs.Step.{ofEach, ownSteps, outcome, registerAll, change, attempted, ownStep, stepFrom, step}
 use Rattle.steps.specs.Run.{counted, runFrom, finished, accessSteps, totalOf}
-use Rattle.steps.specs.Bench.{Case}
 use Rattle.steps.specs.Errors.{inTurn, endsWell, errors}
 
 pub errors-shown : map (λ (c : Case). c .got) errors ≡ map (λ (c : Case). c .expected) errors

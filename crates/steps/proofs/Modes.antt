@@ -10,7 +10,7 @@ use lib.Dec.{eqb}
 use Rattle.layout.specs.Flow.{Access, Operation, Task}
 use Rattle.layout.specs.Lists.{any}
 use Rattle.layout.specs.Row.{written, keepsModes, allKeepModes, modesSound, mayWrite, mayRead, modeOf, readsA, readsB}
-use Rattle.layout.proofs.Lists.{and-left, and-right}
+use Rattle.layout.proofs.Lists.{and-left, and-right, or-swap}
 use Rattle.steps.specs.Conflict.{operationOf, noOperation}
 
 -- ---- what it writes and reads
@@ -44,12 +44,6 @@ module _ (accesses : List Access) (earlier : List Operation) (o : Operation) (h 
       (and-right (may-write && (not (readsA (o .code)) || may-read (o .a))) (not (readsB (o .code)) || may-read (o .b)) h)
 
 -- ---- each after those before it
-
--- a test of any of a list, and of those before it
-or-swap : (x y z : Bool) → (y || (x || z)) ≡ ((x || y) || z)
-or-swap true true z = refl
-or-swap true false z = refl
-or-swap false y z = refl
 
 -- two lists that write the same cells ask the same of an operation
 keeps-same : (accesses : List Access) (one other : List Operation) (o : Operation) → ((c : ℕ) → written one c ≡ written other c)

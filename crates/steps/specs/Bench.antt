@@ -8,6 +8,7 @@ use Rattle.layout.specs.Refusal.{success}
 use Rattle.layout.specs.Flow.{Task}
 use Rattle.layout.specs.Fletcher.{fletcher}
 use Rattle.layout.specs.File.{flowOf}
+use Rattle.layout.specs.Cases.{Case, gives}
 use Rattle.steps.specs.Operations.{effect, operated}
 use Rattle.steps.specs.Run.{settingFor, total}
 use Rattle.steps.specs.Held.{namedBy}
@@ -61,7 +62,11 @@ heldOn schedule = heldNumbers (runHeld flowA start schedule)
 unfoldable pub readThenWritten : List Task
 readThenWritten =
     record { owner = 0; accesses = record { cell = 0; mode = 1 } ∷ record { cell = 1; mode = 1 } ∷ []; operations = [] }
-    ∷ record { owner = 1; accesses = record { cell = 0; mode = 2 } ∷ record { cell = 1; mode = 3 } ∷ []; operations = [] }
+    ∷ record {
+      owner = 1;
+      accesses = record { cell = 0; mode = 2 } ∷ record { cell = 1; mode = 3 } ∷ [];
+      operations = record { code = 1; a = 0; b = 0; k = 7 } ∷ [];
+    }
     ∷ []
 
 unfoldable pub heldByReads : List ℕ → List ℕ
@@ -84,13 +89,6 @@ unfoldable pub madeOn : ℕ → ℕ → ℕ → List ℕ
 madeOn code a b = operated effect (record { code = code; a = 0; b = 1; k = 0 }) (a ∷ b ∷ [])
 
 -- ---- the table
-
-pub record Case : Type 0 where
-  pub got : List ℕ
-  pub expected : List ℕ
-
-abbrev pub gives : List ℕ → List ℕ → Case
-gives got expected = record { got = got; expected = expected }
 
 -- "0 0 0 0 1 1"
 unfoldable pub unposted : List ℕ

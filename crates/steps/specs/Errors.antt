@@ -6,10 +6,10 @@ use mathlib.Core.List.{List, [], _∷_, _++_}
 use Prim.Native.Nat.{ℕ, zero, suc}
 use lib.ListN.{replicate}
 use Rattle.layout.specs.Flow.{Access, Operation, Task, Flow}
+use Rattle.layout.specs.Cases.{Case, gives}
 use Rattle.steps.specs.Operations.{effect}
 use Rattle.steps.specs.Plain.{afterTasks}
 use Rattle.steps.specs.Run.{Run, run, settingOf, finished, total}
-use Rattle.steps.specs.Bench.{Case, gives}
 
 -- ---- the tasks, each of a worker, over two cells
 

@@ -80,7 +80,7 @@ impl Head {
     // Whether it can be the head of a case.
     pub(crate) fn is_sound(self) -> bool {
         let first = self.answer[0];
-        let known = (1 <= self.call) & (self.call <= 5) & (first <= 16);
+        let known = (1 <= self.call) & (self.call <= 5) & (first <= 17);
         known & self.has_room() & self.has_schedule() & self.has_cells()
     }
 }

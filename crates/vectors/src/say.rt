@@ -60,9 +60,9 @@ pub(crate) fn calls(counts: &[u32; 6]) {
 }
 
 // A line for each number with how often it was answered.
-pub(crate) fn numbers(counts: &[u32; 17]) {
+pub(crate) fn numbers(counts: &[u32; 18]) {
     let mut number = 0;
-    while number < 17 {
+    while number < 18 {
         pair(b"number ", number);
         counted(b" met ", counts[octets::offset(number)]);
         number += 1;

@@ -6,7 +6,7 @@ use crate::say;
 pub(crate) struct Tally {
     // By the call's number; none has 0.
     calls: [u32; 6],
-    numbers: [u32; 17],
+    numbers: [u32; 18],
     held: u32,
     differed: u32,
 }
@@ -19,7 +19,7 @@ impl Tally {
     pub(crate) fn new() -> Tally {
         Tally {
             calls: [0; 6],
-            numbers: [0; 17],
+            numbers: [0; 18],
             held: 0,
             differed: 0,
         }
@@ -33,7 +33,7 @@ impl Tally {
     }
 
     fn with_number(mut self, number: usize) -> Tally {
-        if number < 17 {
+        if number < 18 {
             self.numbers[number] = one_more(self.numbers[number]);
         }
         self

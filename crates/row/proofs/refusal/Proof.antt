@@ -1,15 +1,17 @@
 -- `row::refusal` meets its contract: the rules are asked in their order, and what the rules before tell is what the next one asks for.
-use mathlib.Core.Path.{_≡_, sym, _∙_}
+use mathlib.Core.Path.{_≡_, sym, ap, _∙_}
 use mathlib.Core.Bool.{true, cond}
 use borrow.Author.Needs.{needs}
 use borrow.Author.Tests.{not-true, not-false}
 use Rattle.layout.specs.Flow.{mostCells}
 use Rattle.layout.specs.Refusal.{firstBroken}
 use Rattle.layout.specs.Lists.{all}
-use Rattle.layout.specs.Row.{taskOf, ownerSound, countsSound, accessInRange, accessesSound, namedOnce, operationsSound, rowRefusal}
+use Rattle.layout.specs.Row.{taskOf, ownerSound, countsSound, accessInRange, accessesSound, namedOnce, operationsSound, modesSound, rowRefusal}
 use Rattle.layout.proofs.Modes.{accesses-more, operations-more}
-use Rattle.row.specs.Table.{tableOf}
-use Rattle.row.proofs.Once.{told-once, told-twice}
+use Rattle.row.specs.Table.{tableOf, tableLeft, noneOwed}
+use Rattle.row.proofs.Told.{told-kept, told-broken}
+use Rattle.row.proofs.Once.{table-named}
+use Rattle.row.proofs.Owed.{after-some, owed-same}
 use Rattle.row.proofs.refusal.Statement.{statement}
 use Rattle.row.proofs.refusal.Tie as tie
 
@@ -31,6 +33,9 @@ past-9 c = past-8 (c .before .before)
 abbrev past-10 : tie.Else5 → tie.Start
 past-10 c = past-9 (c .before .before)
 
+abbrev past-11 : tie.Else6 → tie.Start
+past-11 c = past-10 (c .before .before)
+
 -- and the place of the rule before
 abbrev back-to-6 : tie.Else2 → tie.Else1
 back-to-6 c = c .before .before
@@ -43,6 +48,9 @@ back-to-8 c = c .before .before
 
 abbrev back-to-9 : tie.Else5 → tie.Else4
 back-to-9 c = c .before .before
+
+abbrev back-to-10 : tie.Else6 → tie.Else5
+back-to-10 c = c .before .before
 
 -- ---- what each rule tells once it is kept
 
@@ -58,10 +66,15 @@ kept-8 c = sym (c .before .accesses-sound .ensures) ∙ not-false _ (c .if3 .lef
 -- the table is then that of the accesses
 kept-9 : (c : tie.Else4)
     → (namedOnce (taskOf (past-9 c .args .row .now) .accesses) ≡ true) × (c .before .modes-of .result ≡ tableOf (taskOf (past-9 c .args .row .now) .accesses))
-kept-9 c = told-once (past-9 c .args .row .now) (c .before .modes-of .ensures) (c .if4 .left)
+kept-9 c = told-kept _ _ (c .before .modes-of .ensures) (c .if4 .left)
 
 kept-10 : (c : tie.Else5) → operationsSound (past-10 c .args .cells) (past-10 c .args .row .now) ≡ true
 kept-10 c = sym (c .before .operations-sound .ensures) ∙ not-false _ (c .if5 .left)
+
+-- and the table is then the one that the operations leave
+kept-11 : (c : tie.Else6)
+    → (modesSound (taskOf (past-11 c .args .row .now)) ≡ true) × (c .before .modes-left .result ≡ tableLeft (taskOf (past-11 c .args .row .now)))
+kept-11 c = told-kept _ _ (c .before .modes-left .ensures) (c .if6 .left)
 
 -- ---- the rules in their order
 
@@ -94,7 +107,8 @@ unfolding rowRefusal firstBroken
 returns-4 c =
     let eight = c .before .before in
     let seven = back-to-7 eight in
-    let twice = told-twice (past-8 eight .args .row .now) (c .before .modes-of .ensures) (kept-7 seven) (named eight) (c .if4 .taken) in
+    let task = taskOf (past-8 eight .args .row .now) in
+    let twice = told-broken (namedOnce (task .accesses)) (tableOf (task .accesses)) (c .before .modes-of .ensures) (table-named (past-8 eight .args .row .now) (kept-7 seven) (named eight)) (c .if4 .taken) in
     rw (kept-6 (back-to-6 seven), kept-7 seven, kept-8 eight, twice)
 
 operations-sound-requires : tie.Need-operations-sound-requires
@@ -108,8 +122,8 @@ returns-5 c =
     let seven = back-to-7 eight in
     rw (kept-6 (back-to-6 seven), kept-7 seven, kept-8 eight, kept-9 nine .0, sym (c .before .operations-sound .ensures) ∙ not-true _ (c .if5 .taken))
 
-all-keep-modes-requires : tie.Need-all-keep-modes-requires
-all-keep-modes-requires c κs =
+modes-left-requires : tie.Need-modes-left-requires
+modes-left-requires c κs =
     let start = past-10 c in
     let nine = back-to-9 c in
     let eight = back-to-8 nine in (
@@ -120,30 +134,46 @@ all-keep-modes-requires c κs =
       ),
     )
 
--- where the function starts, as seen once rule 11 is asked
-abbrev at-11 : tie.After-all-keep-modes → tie.Start
-at-11 c = past-10 (c .before)
-
-last-rule : (c : tie.After-all-keep-modes)
-    → rowRefusal (at-11 c .args .workers) (at-11 c .args .cells) (at-11 c .args .row .now) ≡ cond (c .all-keep-modes .result) 0 11
+returns-6 : tie.Need-returns-6
 unfolding rowRefusal firstBroken
-last-rule c =
-    let ten = c .before in
+returns-6 c =
+    let ten = c .before .before in
     let nine = back-to-9 ten in
     let eight = back-to-8 nine in
     let seven = back-to-7 eight in
-    rw (kept-6 (back-to-6 seven), kept-7 seven, kept-8 eight, kept-9 nine .0, kept-10 ten, c .all-keep-modes .ensures)
+    let row = past-10 ten .args .row .now in
+    let some = after-some (tableOf (taskOf row .accesses)) (taskOf row .operations) (table-named row (kept-7 seven) (named eight)) in
+    let broken = told-broken (modesSound (taskOf row)) (tableLeft (taskOf row)) (c .before .modes-left .ensures) some (c .if6 .taken) in
+    rw (kept-6 (back-to-6 seven), kept-7 seven, kept-8 eight, kept-9 nine .0, kept-10 ten, broken)
 
-returns-6 : tie.Need-returns-6
-returns-6 c = rw (last-rule (c .before), not-true (c .before .all-keep-modes .result) (c .if6 .taken))
+-- where the function starts, as seen once rule 17 is asked
+abbrev at-17 : tie.After-none-owed → tie.Start
+at-17 c = past-11 (c .before)
+
+last-rule : (c : tie.After-none-owed)
+    → rowRefusal (at-17 c .args .workers) (at-17 c .args .cells) (at-17 c .args .row .now) ≡ cond (c .none-owed .result) 0 17
+unfolding rowRefusal firstBroken
+last-rule c =
+    let eleven = c .before in
+    let ten = back-to-10 eleven in
+    let nine = back-to-9 ten in
+    let eight = back-to-8 nine in
+    let seven = back-to-7 eight in
+    let made =
+    c .none-owed .ensures ∙ ap noneOwed (kept-11 eleven .1)
+    ∙ owed-same (taskOf (at-17 c .args .row .now)) (named eight) (kept-9 nine .0) (kept-11 eleven .0) in
+    rw (kept-6 (back-to-6 seven), kept-7 seven, kept-8 eight, kept-9 nine .0, kept-10 ten, kept-11 eleven .0, made)
 
 returns-7 : tie.Need-returns-7
-returns-7 c = rw (last-rule (c .before), not-false (c .before .all-keep-modes .result) (c .if6 .left))
+returns-7 c = rw (last-rule (c .before), not-true (c .before .none-owed .result) (c .if7 .taken))
+
+returns-8 : tie.Need-returns-8
+returns-8 c = rw (last-rule (c .before), not-false (c .before .none-owed .result) (c .if7 .left))
 
 pub refusal-spec : {M : Type 1} → statement M
 refusal-spec =
     tie.close
     (tie.spec
     (λ c κs. search needs) returns (λ c κs. search needs) returns-2 accesses-sound-requires returns-3
-    modes-of-requires returns-4 operations-sound-requires returns-5 all-keep-modes-requires returns-6
-    returns-7)
+    modes-of-requires returns-4 operations-sound-requires returns-5 modes-left-requires returns-6
+    (λ c κs. search needs) returns-7 returns-8)

@@ -10,7 +10,7 @@ use Rattle.file.proofs.Places.{Left, begun, passed, refused, done}
 use Rattle.writer.proofs.given_met.Statement.{statement}
 use Rattle.writer.proofs.given_met.Tie as tie
 
--- the first of 6 to 11 that a task's row breaks
+-- the first rule that a task's row breaks
 abbrev number : List ℕ → Flow → ℕ → ℕ
 number rows flow task = rowRefusal (flow .workers) (flow .cells) (rowOfTask rows task)
 

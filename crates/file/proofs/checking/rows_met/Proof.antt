@@ -10,7 +10,7 @@ use Rattle.file.proofs.Places.{Left, begun, passed, refused, done}
 use Rattle.file.proofs.checking.rows_met.Statement.{statement}
 use Rattle.file.proofs.checking.rows_met.Tie as tie
 
--- the first of 6 to 11 that a task's row breaks
+-- the first rule that a task's row breaks
 abbrev number : List ℕ → Sizes → ℕ → ℕ
 number file sizes task = rowRefusal (sizes .workers) (sizes .cells) (rowAt file task)
 

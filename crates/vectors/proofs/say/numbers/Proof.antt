@@ -1,14 +1,14 @@
--- `say::numbers` is safe and ends: the number stays at most 17.
+-- `say::numbers` is safe and ends: the number stays at most 18.
 use Prim.Native.Nat.{_≤_, _-_}
 use borrow.Author.Needs.{needs}
 use Rattle.vectors.proofs.say.numbers.Statement.{statement}
 use Rattle.vectors.proofs.say.numbers.Tie as tie
 
 abbrev Inv-loop : tie.InvT-loop
-Inv-loop counts number₀ t3 t4 number = number ≤ 17
+Inv-loop counts number₀ t3 t4 number = number ≤ 18
 
 abbrev μ-loop : tie.MeasureT-loop
-μ-loop counts number₀ t3 t4 number = 17 - number
+μ-loop counts number₀ t3 t4 number = 18 - number
 
 pub numbers-spec : {M : Type 1} → statement M
 numbers-spec =

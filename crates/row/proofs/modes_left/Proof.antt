@@ -1,5 +1,5 @@
--- `row::all_keep_modes` meets its contract. The invariant: what all operations keep to is what those from i on keep to, and the table has
--- the modes after the ones before.
+-- `row::modes_left` meets its contract. The invariant: what all operations keep to, and the table that they leave, is what those from i
+-- on keep to and leave, and the table has the modes after the ones before.
 use mathlib.Core.Path.{_≡_, sym, ap₂, _∙_}
 use Prim.Native.Nat.{_+_, _*_, _≤_, _-_}
 use borrow.Author.Needs.{needs}
@@ -9,9 +9,9 @@ use Rattle.layout.specs.Flow.{mostCells, mostOperations}
 use Rattle.layout.proofs.Modes.{counts-kept}
 use Rattle.row.specs.Table.{keepsTable}
 use Rattle.row.proofs.Table.{table-first}
-use Rattle.row.proofs.Keeps.{KeptSoFar, OperationTurn, kept-none, step-cells, asked, breaks, kept-next, kept-all}
-use Rattle.row.proofs.all_keep_modes.Statement.{statement}
-use Rattle.row.proofs.all_keep_modes.Tie as tie
+use Rattle.row.proofs.Keeps.{KeptSoFar, OperationTurn, kept-none, step-cells, asked, breaks, kept-next, kept-all, left-all}
+use Rattle.row.proofs.modes_left.Statement.{statement}
+use Rattle.row.proofs.modes_left.Tie as tie
 
 abbrev Inv-loop : tie.InvT-loop
 Inv-loop row table count modes₀ i₀ modes i = (i ≤ count) × (count ≤ mostOperations) × KeptSoFar row i modes
@@ -25,7 +25,7 @@ loop-holds c =
     let named = start .pre .1 .1 in (
       search needs,
       rw (c .index .ensures .0) (counts-kept (start .args .row .now) (start .pre .1 .0) .1),
-      kept-none (start .args .row .now) (start .args .table) (rw (named .1 .1 .1) (table-first mostCells _ (named .0) (named .1 .0))),
+      rw (named .1 .1 .1) (kept-none (start .args .row .now) (table-first mostCells _ (named .0) (named .1 .0))),
     )
 
 -- where the function starts, as seen from the head of the loop; and the turn, once the operation's modes are read from the table
@@ -66,7 +66,7 @@ answer c =
     (after-b c .mode-in2 .ensures)
 
 returns : tie.Need-returns Inv-loop μ-loop
-returns c = sym (breaks (step (turn-of (c .before))) (sym (answer (c .before)) ∙ not-true _ (c .if1 .taken)))
+returns c = rw (breaks (step (turn-of (c .before))) (sym (answer (c .before)) ∙ not-true _ (c .if1 .taken)))
 
 with-mode-requires : tie.Need-with-mode-requires Inv-loop μ-loop
 with-mode-requires c κs = (step-cells (step (turn-of (c .before))) .0, search needs)
@@ -80,10 +80,12 @@ loop-again c =
     )
 
 returns-2 : tie.Need-returns-2 Inv-loop μ-loop
-returns-2 c = sym (kept-all _ _ _ (rw (c .before .before .index .ensures .0) at (c .loop-test .left)) (c .before .loop .inv .2))
+returns-2 c =
+    let over = rw (c .before .before .index .ensures .0) at (c .loop-test .left) in
+    rw (kept-all _ _ _ over (c .before .loop .inv .2)) (left-all _ _ _ over (c .before .loop .inv .2))
 
-pub all-keep-modes-spec : {M : Type 1} → statement M
-all-keep-modes-spec =
+pub modes-left-spec : {M : Type 1} → statement M
+modes-left-spec =
     tie.close
     (tie.spec
     Inv-loop μ-loop (λ c. search needs) (λ c κs. search needs) loop-holds (λ c. search needs)
