@@ -68,13 +68,13 @@ module _ (file cells schedule : List ℕ) (r : RunAnswer) (after : List ℕ) (pr
   unfolding runTold
   told-finished = ap (λ (a : RunAnswer). a .finished) (promised .answer) ∙ whole _
 
-  stepped-cells : after ≡ run (flowIn file) cells schedule .machine .cells
+  pub stepped-cells : after ≡ run (flowIn file) cells schedule .machine .cells
   unfolding runCells
   stepped-cells =
       promised .cells-after
       ∙ ap (λ (k : ℕ). cond (eqb k 0) (run (flowIn file) cells schedule .machine .cells) cells) accepted
 
-  given : Given file cells schedule
+  pub given : Given file cells schedule
   given = accepted-given file cells schedule accepted
 
   demand : Demand3 (flowIn file) (flowOf file .workers) cells schedule
@@ -90,7 +90,7 @@ module _ (file cells schedule : List ℕ) (r : RunAnswer) (after : List ℕ) (pr
       plain .cells-after
       ∙ ap (λ (k : ℕ). cond (eqb k 0) (afterTasks effect (flowOf file .tasks) cells) cells) plain-taken
 
-  is-finished : r .finished ≡ 1 → finished (flowOf file .workers) (flowOf file .tasks) (run (flowIn file) cells schedule .machine) ≡ true
+  pub is-finished : r .finished ≡ 1 → finished (flowOf file .workers) (flowOf file .tasks) (run (flowIn file) cells schedule .machine) ≡ true
   is-finished e = told-true _ (sym told-finished ∙ e)
 
   some-left : r .finished ≡ 0

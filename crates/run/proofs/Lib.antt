@@ -8,3 +8,4 @@ pub mod Outcomes
 pub mod Finished
 pub mod Unique
 pub mod Walking
+pub mod Written

@@ -3,3 +3,4 @@ pub mod Demand
 pub mod Held
 pub mod Noted
 pub mod Promises
+pub mod Written

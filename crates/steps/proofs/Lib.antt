@@ -35,3 +35,4 @@ pub mod Theorems
 pub mod Total
 pub mod Touching
 pub mod Values
+pub mod Written

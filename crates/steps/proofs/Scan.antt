@@ -57,7 +57,7 @@ module _ (does : Effect) (tasks : List Task) (start : List ℕ) where
   unfolding plainAt afterOperations afterTasks
   plain-start = refl
 
-  plain-next : (j : ℕ) → j < length tasks → plainAt j (operationsIn tasks j) ≡ plainAt (suc j) 0
+  pub plain-next : (j : ℕ) → j < length tasks → plainAt j (operationsIn tasks j) ≡ plainAt (suc j) 0
   unfolding plainAt afterOperations
   plain-next j h =
       rw (take-suc tasks j noTask h, take-length (taskAt tasks j .operations))
@@ -112,7 +112,7 @@ module _ (does : Effect) (tasks : List Task) (start : List ℕ) where
   -- ---- the scan is the plain run
 
   module _ {workers : ℕ} (keeps : AllKeep workers (length start) tasks) where
-    plain-kept : (j made c : ℕ) → j < length tasks → made ≤ operationsIn tasks j → declaresWritten (taskAt tasks j) c ≡ false
+    pub plain-kept : (j made c : ℕ) → j < length tasks → made ≤ operationsIn tasks j → declaresWritten (taskAt tasks j) c ≡ false
         → plainCell j made c ≡ plainCell j 0 c
     plain-kept j zero c h l undeclared = refl
     plain-kept j (suc made) c h l undeclared =

@@ -21,7 +21,7 @@ use Rattle.steps.proofs.Places.{PlaceFits}
 use Rattle.steps.proofs.Plain.{same-of-a, same-of-b}
 
 -- what two contents of a cell that is set to one value give
-set-alike : (one other : List ℕ) (cell v v′ : ℕ) → length one ≡ length other → v ≡ v′
+pub set-alike : (one other : List ℕ) (cell v v′ : ℕ) → length one ≡ length other → v ≡ v′
     → getD (set one cell v) cell 0 ≡ getD (set other cell v′) cell 0
 set-alike one other cell v v′ as-long same =
     order cell (length one) inside (λ e. outside (omega arith)) (λ l. outside (omega arith))

@@ -12,5 +12,6 @@ pub mod Bench
 pub mod Errors
 pub mod Conflict
 pub mod Done
+pub mod Written
 pub mod Demand
 pub mod Auditor
