@@ -88,7 +88,7 @@ uint32_t ref_fletcher(const uint8_t *bytes, size_t length)
     return a % 255 | (b % 255) << 8;
 }
 
-/* ---- the check of a row: refusals 6 to 11 ------------------------------ */
+/* ---- the check of a row: refusals 6 to 11, then 17 --------------------- */
 
 /* What the operations of a task may do, a bit for each cell. */
 struct rights {
@@ -187,7 +187,31 @@ static uint32_t check_operations(const uint8_t *row, uint32_t cells,
     return against ? 11 : 0;
 }
 
-/* 6 to 11 on one task, in that order; 0 if none. Adds its part of the total. */
+/* "a is always written" */
+static bool written_by_task(const uint8_t *row, uint32_t cell)
+{
+    const uint8_t *operation = row + OPERATIONS_AT;
+
+    for (uint32_t i = 0; i < row[2]; i++, operation += OPERATION)
+        if (operation[1] == cell)
+            return true;
+    return false;
+}
+
+/* 17: "a task in which a mode 2 cell is written by no operation. Mode 3 cells
+   need not be written." (02, Q-6) */
+static uint32_t check_written(const uint8_t *row)
+{
+    const uint8_t *access = row + ACCESSES_AT;
+
+    for (uint32_t i = 0; i < row[1]; i++, access += ACCESS)
+        if (access[1] == MODE_WRITE && !written_by_task(row, access[0]))
+            return 17;
+    return 0;
+}
+
+/* 6 to 11 on one task, in that order, then 17; 0 if none. Adds its part of the
+   total. */
 static uint32_t check_row(const uint8_t *row, struct flow *flow)
 {
     struct rights rights = {0, 0};
@@ -201,7 +225,8 @@ static uint32_t check_row(const uint8_t *row, struct flow *flow)
         return number;
     /* "1 for each operation, and workers less 1" */
     flow->total += row[2] + flow->workers - 1;
-    return check_operations(row, flow->cells, rights);
+    number = check_operations(row, flow->cells, rights);
+    return number != 0 ? number : check_written(row);
 }
 
 uint32_t ref_row(const uint8_t *row, uint32_t workers, uint32_t cells)
@@ -210,7 +235,7 @@ uint32_t ref_row(const uint8_t *row, uint32_t workers, uint32_t cells)
     return cells > MAX_CELLS ? 4 : check_row(row, &flow);
 }
 
-/* ---- the check of a file: refusals 1 to 11 ----------------------------- */
+/* ---- the check of a file: refusals 1 to 11 and 17 ---------------------- */
 
 static bool head_formed(const uint8_t *block, uint32_t index, uint32_t blocks)
 {
@@ -286,7 +311,8 @@ static const uint8_t *row_at(const uint8_t *file, uint32_t index)
 
 /*
  * "Order: 1; then 2 to 5 on block 0, then on block 1, and so on; then 6 to 11
- * on task 1, then task 2, and so on. The first one met is given."
+ * on task 1, then task 2, and so on. The first one met is given." 17 is
+ * "directly after 11 on the same task and before 6 on the next" (02, Q-6).
  */
 static uint32_t check_file(const uint8_t *file, size_t file_len,
                            struct flow *flow, uint32_t *place)
@@ -333,7 +359,7 @@ uint32_t ref_check(const uint8_t *file, size_t file_len,
 
 /* ---- the reader -------------------------------------------------------- */
 
-/* 1 to 11 of the file, then "the reader 16". */
+/* 1 to 11 and 17 of the file, then "the reader 16". */
 static uint32_t check_read(const uint8_t *file, size_t file_len, size_t rows_len,
                            struct flow *flow, uint32_t *place)
 {
@@ -368,7 +394,8 @@ uint32_t ref_read(const uint8_t *file, size_t file_len,
 
 /* ---- the writer -------------------------------------------------------- */
 
-/* "The writer, given rows, workers and cells, has 15, 4, 6 to 11, 16." */
+/* "The writer, given rows, workers and cells, has 15, 4, 6 to 11, 16." With 11
+   comes 17: it "holds for every call that checks a flow" (02, Q-6). */
 static uint32_t check_write(const uint8_t *rows, size_t rows_len,
                             uint32_t workers, uint32_t cells, size_t out_len,
                             struct flow *flow, uint32_t *place)
@@ -459,7 +486,7 @@ static void operate(const uint8_t *operation, uint32_t *cells)
     }
 }
 
-/* 1 to 11 of the file, then "the plain run 12 only". */
+/* 1 to 11 and 17 of the file, then "the plain run 12 only". */
 static uint32_t check_start(const uint8_t *file, size_t file_len, size_t cells_len,
                             struct flow *flow, uint32_t *place)
 {
@@ -712,7 +739,8 @@ static void start(struct run *run, const uint8_t *file, uint32_t *cells,
     }
 }
 
-/* 1 to 12, then 13, then 14 at the first byte that names no worker. */
+/* 1 to 11, 17 and 12, then 13, then 14 at the first byte that names no
+   worker. */
 static uint32_t check_run(const uint8_t *file, size_t file_len, size_t cells_len,
                           const uint8_t *schedule, size_t schedule_len,
                           struct flow *flow, uint32_t *place)

@@ -18,7 +18,7 @@ struct calls {
 };
 
 /* The check of one row by itself, of the crate row_alone: the first of 6 to 11
-   that the row breaks, 0 if none; 4 where the cells are over 32. */
+   and then 17 that the row breaks, 0 if none; 4 where the cells are over 32. */
 uint32_t row_alone(const uint8_t *row, uint32_t workers, uint32_t cells);
 
 #define LIBRARY_CALLS {"library", sflw_check, sflw_read, sflw_write, sflw_plain, sflw_run}

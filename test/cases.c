@@ -35,7 +35,7 @@ const char *answer_word(uint32_t call, uint32_t index)
 
 /* ---- what the answer will be ------------------------------------------- */
 
-/* The case has this refusal, unless an earlier one in 01's order is there. */
+/* The case has this refusal, unless an earlier one in the order is there. */
 static void refused(struct test_case *made, uint32_t number, uint32_t place)
 {
     if (made->number != 0)
@@ -128,13 +128,45 @@ struct fault {
     uint32_t place;
 };
 
+/* The numbers of a file, in the order in which a block or a task has them: 17
+   comes "directly after 11 on the same task" (02, Q-6). */
+static const uint8_t file_numbers[] = {1, 2, 3, 4, 5, 6, 7, 8, 9, 10, 11, 17};
+
+/* Where the numbers of a task begin there, where the last four do, and how
+   many there are. */
+enum { OF_A_TASK = 5, LAST_FOUR = 8, FILE_NUMBERS = sizeof file_numbers };
+
+/* Its index in that order. */
+static uint32_t rank_of(uint32_t number)
+{
+    uint32_t rank = 0;
+    while (file_numbers[rank] != number)
+        rank++;
+    return rank;
+}
+
+static bool is_of_a_task(uint32_t number)
+{
+    return rank_of(number) >= OF_A_TASK;
+}
+
 /* "Order: 1; then 2 to 5 on block 0, then on block 1, and so on; then 6 to 11
-   on task 1, then task 2, and so on." */
+   on task 1, then task 2, and so on." With 17 after 11, and "before 6 on the
+   next" (02, Q-6). */
 static uint32_t order_of(struct fault fault)
 {
+    uint32_t first = is_of_a_task(fault.number) ? 0x20000 : 0x10000;
     if (fault.number == 1)
         return 0;
-    return (fault.number <= 5 ? 0x10000 : 0x20000) + fault.place * 16 + fault.number;
+    return first + fault.place * FILE_NUMBERS + rank_of(fault.number);
+}
+
+/* A number from this one of the order on. The last, which every other fault of
+   its task hides, is twice as likely as another. */
+static uint32_t some_number(struct random *random, uint32_t first)
+{
+    uint32_t rank = between(random, first, FILE_NUMBERS);
+    return file_numbers[rank < FILE_NUMBERS ? rank : FILE_NUMBERS - 1];
 }
 
 /* The first, the last or any. */
@@ -199,13 +231,13 @@ static void spoil_file(struct random *random, struct test_case *made,
     uint32_t task = some_index(random, flow->tasks);
 
     for (uint32_t i = 0; i < count; i++) {
-        uint32_t number = between(random, 1, 11);
+        uint32_t number = some_number(random, 0);
         if (number == 1 && chance(random, 700))
-            number = between(random, 9, 11);
+            number = some_number(random, LAST_FOUR);
         if (!chance(random, 500)) /* else two faults of one task or of one block */
             task = some_index(random, flow->tasks);
         faults[i].number = number;
-        faults[i].place = number == 1 ? 0 : number <= 5 ? task / 10 : task + 1;
+        faults[i].place = number == 1 ? 0 : is_of_a_task(number) ? task + 1 : task / 10;
     }
     sort_faults(faults, count);
     for (uint32_t i = 0; i < count; i++) {
@@ -214,7 +246,7 @@ static void spoil_file(struct random *random, struct test_case *made,
             continue; /* one might undo the other */
         if (fault.number == 1) {
             spoil_length(random, made);
-        } else if (fault.number <= 5) {
+        } else if (!is_of_a_task(fault.number)) {
             spoil_block(random, made->input, blocks, fault.place, fault.number);
         } else {
             spoil_row(random, row_in_file(made->input, fault.place - 1), fault.number,
@@ -225,7 +257,7 @@ static void spoil_file(struct random *random, struct test_case *made,
     refused(made, faults[count - 1].number, faults[count - 1].place);
 }
 
-/* The same for rows alone: 6 to 11. */
+/* The same for rows alone: 6 to 11 and 17. */
 static void spoil_rows(struct random *random, struct test_case *made,
                        const struct sample *flow, uint32_t count)
 {
@@ -235,7 +267,7 @@ static void spoil_rows(struct random *random, struct test_case *made,
     for (uint32_t i = 0; i < count; i++) {
         if (!chance(random, 500))
             task = some_index(random, flow->tasks);
-        faults[i].number = between(random, 6, 11);
+        faults[i].number = some_number(random, OF_A_TASK);
         faults[i].place = task + 1;
     }
     sort_faults(faults, count);
@@ -511,7 +543,7 @@ static void some_rows(struct random *random, struct test_case *made,
     }
 }
 
-/* "15, 4, 6 to 11, 16": made from the last to the first. */
+/* "15, 4, 6 to 11, 16", with 17 after 11: made from the last to the first. */
 static void some_write(struct random *random, struct test_case *made,
                        const struct sample *flow)
 {

@@ -26,7 +26,7 @@
 #include <time.h>
 #include <unistd.h>
 
-enum { NUMBERS = 17, REASONS = 4 };
+enum { NUMBERS = 18, REASONS = 4 };
 
 static const struct calls library = LIBRARY_CALLS;
 static const struct calls reference = REFERENCE_CALLS;

@@ -63,6 +63,22 @@ static bool failed[STATEMENTS]; /* in this flow */
 
 /* ---- the flow ---------------------------------------------------------- */
 
+/* Leaves the first operations. A cell of mode 2 that they do not write is one
+   of mode 1 or 3 from now on, which need not be written (02, Q-6). */
+static void cut_operations(struct random *random, uint8_t *row)
+{
+    if (row[2] <= OPERATIONS)
+        return;
+    row[2] = OPERATIONS;
+    for (uint32_t i = 0; i < row[1]; i++) {
+        bool written = false;
+        for (uint32_t j = 0; j < row[2]; j++)
+            written |= row[12 + 6 * j + 1] == row[4 + 2 * i];
+        if (row[5 + 2 * i] == 2 && !written)
+            row[5 + 2 * i] = chance(random, 500) ? 1 : 3;
+    }
+}
+
 static void make_small_flow(struct random *random)
 {
     static struct sample flow;
@@ -71,7 +87,7 @@ static void make_small_flow(struct random *random)
     make_flow(random, &flow, tasks, workers, between(random, 1, CELLS));
     memcpy(rows, flow.rows, sizeof rows);
     for (uint32_t i = 0; i < tasks; i++)
-        rows[i][2] = rows[i][2] < OPERATIONS ? rows[i][2] : OPERATIONS;
+        cut_operations(random, rows[i]);
     for (uint32_t i = 0; i < CELLS; i++)
         start[i] = (uint32_t)random_next(random);
 }

@@ -54,10 +54,16 @@ void make_flow_a(struct sample *flow)
     put_operation(row, 0, 3, 2, 1, 0);
 }
 
+/* How many cells a set has. */
+static uint32_t count_of(uint32_t set)
+{
+    return (uint32_t)__builtin_popcount(set);
+}
+
 /* A cell of a set that has at least one. */
 static uint32_t cell_of(struct random *random, uint32_t set)
 {
-    uint32_t skip = below(random, (uint32_t)__builtin_popcount(set));
+    uint32_t skip = below(random, count_of(set));
     while (skip-- > 0)
         set &= set - 1;
     return (uint32_t)__builtin_ctz(set);
@@ -69,18 +75,19 @@ static uint32_t constant(struct random *random)
     return chance(random, 300) ? edges[below(random, 7)] : below(random, 65536);
 }
 
-/* One operation that the sets allow; the cell written becomes readable. */
+/* One operation that the sets allow, on one of the targets; the cell written
+   becomes readable. */
 static void make_operation(struct random *random, uint8_t *row, uint32_t index,
-                           uint32_t *readable, uint32_t writable)
+                           uint32_t *readable, uint32_t targets)
 {
     uint32_t code = between(random, 1, 6);
-    uint32_t a = cell_of(random, writable);
+    uint32_t a = cell_of(random, targets);
 
     if (*readable == 0)
         code = 1;
     if (code == 3 || code == 4 || code == 6) {
-        if ((*readable & writable) != 0)
-            a = cell_of(random, *readable & writable);
+        if ((*readable & targets) != 0)
+            a = cell_of(random, *readable & targets);
         else
             code = chance(random, 500) ? 2 : 5;
     }
@@ -91,11 +98,22 @@ static void make_operation(struct random *random, uint8_t *row, uint32_t index,
     *readable |= UINT32_C(1) << a;
 }
 
+/* The cells of mode 2 that no operation has written so far. */
+static uint32_t unwritten(uint32_t readable, uint32_t writable)
+{
+    return writable & ~readable;
+}
+
+/* There are at least as many operations as cells of mode 2. Each such cell is
+   written: by chance, or where no more operations are left than such cells. */
 static void make_operations(struct random *random, uint8_t *row,
                             uint32_t readable, uint32_t writable)
 {
-    for (uint32_t i = 0; i < row[2]; i++)
-        make_operation(random, row, i, &readable, writable);
+    for (uint32_t i = 0; i < row[2]; i++) {
+        uint32_t owed = unwritten(readable, writable);
+        bool all = count_of(owed) == row[2] - i;
+        make_operation(random, row, i, &readable, all ? owed : writable);
+    }
 }
 
 void make_row(struct random *random, uint8_t *row, uint32_t workers, uint32_t hot)
@@ -117,7 +135,7 @@ void make_row(struct random *random, uint8_t *row, uint32_t workers, uint32_t ho
         writable |= mode != 1 ? UINT32_C(1) << cell : 0;
     }
     if (writable != 0)
-        row[2] = (uint8_t)below(random, 7);
+        row[2] = (uint8_t)between(random, count_of(unwritten(readable, writable)), 6);
     make_operations(random, row, readable, writable);
 }
 
@@ -344,11 +362,16 @@ static void rights_at(const uint8_t *row, uint32_t index,
         *readable |= UINT32_C(1) << row[12 + 6 * i + 1];
 }
 
+static uint32_t all_cells(uint32_t cells)
+{
+    return cells == 32 ? UINT32_MAX : (UINT32_C(1) << cells) - 1;
+}
+
 /* An operation against the modes: it writes a cell of mode 1 or of none, or
    reads one of none or of mode 2 that is not yet written. */
 static void spoil_modes(struct random *random, uint8_t *row, uint32_t cells)
 {
-    uint32_t all = cells == 32 ? UINT32_MAX : (UINT32_C(1) << cells) - 1;
+    uint32_t all = all_cells(cells);
     uint32_t index = below(random, row[2] < 6 ? row[2] + 1u : 6);
     uint32_t readable;
     uint32_t writable;
@@ -382,6 +405,75 @@ static void spoil_modes(struct random *random, uint8_t *row, uint32_t cells)
     }
 }
 
+/* Takes an operation away; those after it move up. */
+static void drop_operation(uint8_t *row, uint32_t index)
+{
+    uint8_t *operation = row + 12 + 6 * index;
+
+    memmove(operation, operation + 6, 6 * (5 - index));
+    memset(row + 42, 0, 6);
+    row[2]--;
+}
+
+/* No operation writes or reads this cell any more. One that wrote it is gone or
+   writes another; one that read it still writes what it wrote, so that all
+   others may read what they read. */
+static void turn_away(struct random *random, uint8_t *row, uint32_t cell)
+{
+    uint32_t others = ~(UINT32_C(1) << cell);
+    uint32_t i = 0;
+
+    while (i < row[2]) {
+        const uint8_t *operation = row + 12 + 6 * i;
+        bool writes = operation[1] == cell;
+        bool reads = operation[0] != 1 && operation[2] == cell;
+        uint32_t readable;
+        uint32_t writable;
+
+        rights_at(row, i, &readable, &writable);
+        readable &= others;
+        writable &= others;
+        if (writes && (writable == 0 || chance(random, 400))) {
+            drop_operation(row, i);
+            continue;
+        }
+        if (writes || reads)
+            make_operation(random, row, i, &readable,
+                           writes ? writable : UINT32_C(1) << operation[1]);
+        i++;
+    }
+}
+
+/* One access more, of mode 2, anywhere among the others. */
+static void add_access(struct random *random, uint8_t *row, uint32_t cell)
+{
+    uint32_t index = below(random, row[1] + 1u);
+    uint8_t *access = row + 4 + 2 * index;
+
+    memmove(access + 2, access, 2 * (row[1] - index));
+    put_access(row, index, cell, 2);
+    row[1]++;
+}
+
+/* A cell of mode 2 that no operation writes, and nothing against the modes: a
+   cell of a new access, or one of any access that the operations now leave
+   alone. */
+static void leave_unwritten(struct random *random, uint8_t *row, uint32_t cells)
+{
+    uint32_t index = below(random, row[1]);
+    uint32_t cell = row[4 + 2 * index];
+    uint32_t unnamed = all_cells(cells);
+
+    for (uint32_t i = 0; i < row[1]; i++)
+        unnamed &= ~(UINT32_C(1) << row[4 + 2 * i]);
+    if (row[1] < 4 && unnamed != 0 && chance(random, 300)) {
+        add_access(random, row, cell_of(random, unnamed));
+        return;
+    }
+    turn_away(random, row, cell);
+    put_access(row, index, cell, 2);
+}
+
 void spoil_row(struct random *random, uint8_t *row, uint32_t number,
                uint32_t workers, uint32_t cells)
 {
@@ -401,8 +493,13 @@ void spoil_row(struct random *random, uint8_t *row, uint32_t number,
     case 10:
         spoil_operation(random, row, cells);
         break;
-    default:
+    case 11:
         spoil_modes(random, row, cells);
+        break;
+    default:
+        do
+            leave_unwritten(random, row, cells);
+        while (chance(random, 150)); /* mostly one cell */
         break;
     }
 }

@@ -1,7 +1,7 @@
 /*
  * Flows and flow files for the tests, with no help from the code under test:
  * the layout, the check and the rules of a row stand here once more, written
- * from the scope document (01).
+ * from the scope document (01) and the change requests after it (02).
  */
 #ifndef FLOWS_H
 #define FLOWS_H
@@ -31,8 +31,9 @@ struct sample {
 /* Flow A of 01, "A flow on the bench". */
 void make_flow_a(struct sample *flow);
 
-/* A valid row: any owner, accesses, modes and operations that 01 allows.
-   Its cells are below `hot`, which is at most the flow's cells. */
+/* A valid row: any owner, accesses, modes and operations that 01 allows, with
+   each cell of mode 2 written by some operation (02, Q-6). Its cells are below
+   `hot`, which is at most the flow's cells. */
 void make_row(struct random *random, uint8_t *row, uint32_t workers, uint32_t hot);
 
 /* A valid flow of these sizes. */
@@ -58,8 +59,8 @@ size_t make_file(const struct sample *flow, uint8_t *file);
 /* Puts the check of a block right. */
 void put_check(uint8_t *block);
 
-/* Makes fault 6 to 11 in a row that has no fault of that number or a lower
-   one. After it that number is the first that the row has. */
+/* Makes fault 6 to 11 or 17 in a row that has no fault of that number or a
+   lower one. After it that number is the first that the row has. */
 void spoil_row(struct random *random, uint8_t *row, uint32_t number,
                uint32_t workers, uint32_t cells);
 

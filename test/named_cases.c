@@ -103,6 +103,185 @@ static void cell_31_written(struct test_case *made)
     one_row(made, row, sizeof row);
 }
 
+/* ---- a declared write that never happens ------------------------------- */
+
+/* Flow A without the operation of task 1, which declares cell 0 write only. */
+static void make_unwritten(struct sample *flow)
+{
+    make_flow_a(flow);
+    flow->rows[2] = 0;
+    memset(flow->rows + 12, 0, 6);
+}
+
+static void unwritten(struct test_case *made)
+{
+    struct sample flow;
+    make_unwritten(&flow);
+    put_flow(made, &flow);
+}
+
+/* And task 2 has an owner that is no worker. */
+static void unwritten_beside_6(struct test_case *made)
+{
+    struct sample flow;
+    make_unwritten(&flow);
+    flow.rows[ROW_BYTES] = 2;
+    put_flow(made, &flow);
+}
+
+/* And task 2 writes cell 0, which it may only read. */
+static void unwritten_beside_11(struct test_case *made)
+{
+    struct sample flow;
+    make_unwritten(&flow);
+    flow.rows[ROW_BYTES + 13] = 0;
+    put_flow(made, &flow);
+}
+
+static void unwritten_a_byte_short(struct test_case *made)
+{
+    unwritten(made);
+    made->output_len--;
+}
+
+static void unwritten_with_four_cells(struct test_case *made)
+{
+    unwritten(made);
+    made->output_len = 16;
+}
+
+/* Flow A whose task 2 writes cell 0, which it may only read, and so not cell 1,
+   which it declares write only. */
+static void another_cell_written(struct test_case *made)
+{
+    struct sample flow;
+    make_flow_a(&flow);
+    flow.rows[ROW_BYTES + 13] = 0;
+    put_flow(made, &flow);
+}
+
+/* Flow A whose task 1 has no operation by its count, and one all the same. */
+static void past_the_count(struct test_case *made)
+{
+    struct sample flow;
+    make_flow_a(&flow);
+    flow.rows[2] = 0;
+    put_flow(made, &flow);
+}
+
+/* The zeros of the operations that it has not are no writes of cell 0. */
+static void no_write_of_cell_0(struct test_case *made)
+{
+    static const uint8_t row[] = {0, 1, 0, 0, 0, 2};
+    one_row(made, row, sizeof row);
+}
+
+/* Six times a constant into cell 5, and each time b is 0: no write of cell 0. */
+static void b_is_no_write(struct test_case *made)
+{
+    static const uint8_t row[] = {0, 2, 6, 0, 0, 2, 5, 3, 0, 0, 0, 0,
+                                  1, 5, 0, 0, 7, 0, 1, 5, 0, 0, 7, 0, 1, 5, 0, 0, 7, 0,
+                                  1, 5, 0, 0, 7, 0, 1, 5, 0, 0, 7, 0, 1, 5, 0, 0, 7};
+    one_row(made, row, sizeof row);
+}
+
+/* Cell 31 write only and not written: the second access, after one that is
+   written; and the fourth, after two that are and one that is read. */
+static void second_access_unwritten(struct test_case *made)
+{
+    static const uint8_t row[] = {0, 2, 1, 0, 15, 2, 31, 2, 0, 0, 0, 0, 1, 15, 0, 0, 7};
+    one_row(made, row, sizeof row);
+}
+
+static void fourth_access_unwritten(struct test_case *made)
+{
+    static const uint8_t row[] = {0, 4, 3, 0, 15, 2, 6, 1, 23, 2, 31, 2,
+                                  1, 15, 0, 0, 7, 0, 2, 23, 6, 0, 0, 0, 3, 15, 23};
+    one_row(made, row, sizeof row);
+}
+
+/* Cell 31 write only and read, but not written. */
+static void read_and_unwritten(struct test_case *made)
+{
+    static const uint8_t row[] = {0, 2, 1, 0, 31, 2, 5, 3, 0, 0, 0, 0, 2, 5, 31};
+    one_row(made, row, sizeof row);
+}
+
+/* Cell 31 write only, and written by the first of two operations; by the last
+   of six. */
+static void written_by_the_first(struct test_case *made)
+{
+    static const uint8_t row[] = {0, 2, 2, 0, 31, 2, 5, 3, 0, 0, 0, 0,
+                                  1, 31, 0, 0, 7, 0, 2, 5, 31};
+    one_row(made, row, sizeof row);
+}
+
+static void written_by_the_sixth(struct test_case *made)
+{
+    static const uint8_t row[] = {0, 2, 6, 0, 31, 2, 5, 3, 0, 0, 0, 0,
+                                  1, 5, 0, 0, 7, 0, 3, 5, 5, 0, 0, 0, 4, 5, 5, 0, 0, 0,
+                                  6, 5, 5, 0, 0, 0, 5, 5, 5, 0, 0, 0, 2, 31, 5};
+    one_row(made, row, sizeof row);
+}
+
+/* One task of one worker with two cells: cell 1 becomes 7, then twice that, and
+   then cell 0, which is write only, becomes cell 1. */
+static void written_by_the_third(struct test_case *made)
+{
+    struct sample flow = {1, 1, 2, {0, 2, 3, 0, 0, 2, 1, 3, 0, 0, 0, 0,
+                                    1, 1, 0, 0, 7, 0, 3, 1, 1, 0, 0, 0, 2, 0, 1}};
+    put_flow(made, &flow);
+}
+
+/* Two tasks that declare cell 1 write only: the first sets it and the second
+   does not, or the other way round. */
+static void two_tasks(struct test_case *made, uint32_t writer)
+{
+    static const uint8_t operation[] = {1, 1, 0, 0, 7};
+    struct sample flow = {2, 1, 2, {0, 1, 0, 0, 1, 2}};
+    memcpy(flow.rows + ROW_BYTES, flow.rows, ROW_BYTES);
+    flow.rows[writer * ROW_BYTES + 2] = 1;
+    memcpy(flow.rows + writer * ROW_BYTES + 12, operation, sizeof operation);
+    put_flow(made, &flow);
+}
+
+static void written_by_the_task_before(struct test_case *made)
+{
+    two_tasks(made, 0);
+}
+
+static void written_by_the_task_after(struct test_case *made)
+{
+    two_tasks(made, 1);
+}
+
+/* 200 tasks that set cell 0, but for the last. */
+static void last_task_unwritten(struct test_case *made)
+{
+    static const uint8_t row[] = {0, 1, 1, 0, 0, 2, 0, 0, 0, 0, 0, 0, 1, 0, 0, 0, 7};
+    struct sample flow = {MOST_TASKS, 1, 1, {0}};
+    for (uint32_t i = 0; i < MOST_TASKS; i++)
+        memcpy(flow.rows + i * ROW_BYTES, row, sizeof row);
+    uint8_t *last = flow.rows + (MOST_TASKS - 1) * ROW_BYTES;
+    last[2] = 0;
+    memset(last + 12, 0, 6);
+    put_flow(made, &flow);
+}
+
+/* One task with cell 0 of mode 3 and no operation. */
+static void mode_3_unwritten(struct test_case *made)
+{
+    struct sample flow = {1, 1, 1, {0, 1, 0, 0, 0, 3}};
+    put_flow(made, &flow);
+}
+
+/* Cell 31 of mode 3 is read and not written; cell 5 is write only and written. */
+static void mode_3_only_read(struct test_case *made)
+{
+    static const uint8_t row[] = {0, 2, 1, 0, 31, 3, 5, 2, 0, 0, 0, 0, 2, 5, 31};
+    one_row(made, row, sizeof row);
+}
+
 /* ---- limits ------------------------------------------------------------ */
 
 static void put_largest(struct test_case *made)
@@ -386,6 +565,66 @@ const struct named_case named_cases[] = {
     {"cell 31 of mode 2 read once written", CALL_CHECK, cell_31_read_once_written, "", {0},
      {0, 0, 1, 1, 32, 6}, {0}},
     {"cell 31 of mode 1 written", CALL_CHECK, cell_31_written, "", {0}, {11, 1}, {0}},
+    {"task 1's write left out", CALL_CHECK, unwritten, "", START_A, {17, 1}, START_A},
+    {"task 1's write left out, read", CALL_READ, unwritten, "", START_A, {17, 1}, START_A},
+    {"task 1's write left out, written", CALL_WRITE, unwritten, "", START_A, {17, 1}, START_A},
+    {"task 1's write left out, plain run", CALL_PLAIN, unwritten, "", START_A, {17, 1}, START_A},
+    {"task 1's write left out, run", CALL_RUN, unwritten, "0000001111111110000000", START_A,
+     {17, 1}, START_A},
+    {"17 at task 1 beside 6 at task 2", CALL_CHECK, unwritten_beside_6, "", START_A, {17, 1},
+     START_A},
+    {"17 at task 1 beside 6 at task 2, read", CALL_READ, unwritten_beside_6, "", START_A, {17, 1},
+     START_A},
+    {"17 at task 1 beside 6 at task 2, written", CALL_WRITE, unwritten_beside_6, "", START_A,
+     {17, 1}, START_A},
+    {"17 at task 1 beside 6 at task 2, plain run", CALL_PLAIN, unwritten_beside_6, "", START_A,
+     {17, 1}, START_A},
+    {"17 at task 1 beside 6 at task 2, run", CALL_RUN, unwritten_beside_6, "11", START_A,
+     {17, 1}, START_A},
+    {"17 at task 1 beside 11 at task 2", CALL_CHECK, unwritten_beside_11, "", START_A, {17, 1},
+     START_A},
+    {"11 and 17 on task 2", CALL_CHECK, another_cell_written, "", START_A, {11, 2}, START_A},
+    {"11 and 17 on task 2, read", CALL_READ, another_cell_written, "", START_A, {11, 2}, START_A},
+    {"11 and 17 on task 2, written", CALL_WRITE, another_cell_written, "", START_A, {11, 2},
+     START_A},
+    {"11 and 17 on task 2, plain run", CALL_PLAIN, another_cell_written, "", START_A, {11, 2},
+     START_A},
+    {"11 and 17 on task 2, run", CALL_RUN, another_cell_written, "11", START_A, {11, 2}, START_A},
+    {"10 and 17 on task 1, an operation past the count", CALL_CHECK, past_the_count, "", START_A,
+     {10, 1}, START_A},
+    {"17 beside 16, read", CALL_READ, unwritten_a_byte_short, "", START_A, {17, 1}, START_A},
+    {"17 beside 16, written", CALL_WRITE, unwritten_a_byte_short, "", START_A, {17, 1}, START_A},
+    {"17 beside 12, plain run", CALL_PLAIN, unwritten_with_four_cells, "", START_A, {17, 1},
+     START_A},
+    {"17 beside 12, run", CALL_RUN, unwritten_with_four_cells, "11", START_A, {17, 1}, START_A},
+    {"17 beside 14, run", CALL_RUN, unwritten, "02", START_A, {17, 1}, START_A},
+    {"cell 0 of mode 2 and no operation", CALL_CHECK, no_write_of_cell_0, "", {0}, {17, 1}, {0}},
+    {"cell 0 of mode 2, and b is 0", CALL_CHECK, b_is_no_write, "", {0}, {17, 1}, {0}},
+    {"the second access of mode 2 not written", CALL_CHECK, second_access_unwritten, "", {0},
+     {17, 1}, {0}},
+    {"the fourth access of mode 2 not written", CALL_CHECK, fourth_access_unwritten, "", {0},
+     {17, 1}, {0}},
+    {"mode 2 read and not written", CALL_CHECK, read_and_unwritten, "", {0}, {11, 1}, {0}},
+    {"mode 2 written by the first of two operations", CALL_CHECK, written_by_the_first, "", {0},
+     {0, 0, 1, 1, 32, 10}, {0}},
+    {"mode 2 written by the last of six operations", CALL_CHECK, written_by_the_sixth, "", {0},
+     {0, 0, 1, 1, 32, 14}, {0}},
+    {"mode 2 written by the last of three operations", CALL_PLAIN, written_by_the_third, "",
+     {5, 6}, {0, 0}, {14, 14}},
+    {"mode 2 written by the last of three operations, run", CALL_RUN, written_by_the_third,
+     "00000000000", {5, 6}, {0, 0, 11, 0, 1, 1}, {14, 14}},
+    {"mode 2 written by the task before", CALL_CHECK, written_by_the_task_before, "", {0},
+     {17, 2}, {0}},
+    {"mode 2 written by the task after", CALL_WRITE, written_by_the_task_after, "", {0},
+     {17, 1}, {0}},
+    {"mode 2 not written in the last of 200 tasks", CALL_CHECK, last_task_unwritten, "", {0},
+     {17, 200}, {0}},
+    {"mode 3 not written", CALL_CHECK, mode_3_unwritten, "", {0}, {0, 0, 1, 1, 1, 4}, {0}},
+    {"mode 3 not written, read", CALL_READ, mode_3_unwritten, "", {0}, {0, 0, 48, 1, 1, 1}, {0}},
+    {"mode 3 not written, written", CALL_WRITE, mode_3_unwritten, "", {0}, {0, 0, 512}, {0}},
+    {"mode 3 not written, plain run", CALL_PLAIN, mode_3_unwritten, "", {7}, {0, 0}, {7}},
+    {"mode 3 not written, run", CALL_RUN, mode_3_unwritten, "0000", {7}, {0, 0, 4, 0, 1, 1}, {7}},
+    {"mode 3 only read", CALL_CHECK, mode_3_only_read, "", {0}, {0, 0, 1, 1, 32, 9}, {0}},
     {"200 tasks, 8 workers, 32 cells", CALL_CHECK, put_largest, "", {0},
      {0, 0, 200, 8, 32, 5800}, {0}},
     {"200 tasks, read", CALL_READ, put_largest, "", {0}, {0, 0, 9600, 200, 8, 32}, {0}},

@@ -40,7 +40,7 @@
 #include <stdlib.h>
 #include <string.h>
 
-enum { NUMBERS = 17, REASONS = 4, LARGEST = 3, TOO_LONG = 24 };
+enum { NUMBERS = 18, REASONS = 4, LARGEST = 3, TOO_LONG = 24 };
 
 static const struct calls reference = REFERENCE_CALLS;
 static struct memory memory;
@@ -200,7 +200,7 @@ static void lengthen_schedule(size_t length)
         current.schedule[i] = current.schedule[i - current.schedule_len];
     current.schedule_len = length;
     current.kind = "schedule too long";
-    if (current.number == 0 || current.number > 12) {
+    if (current.number == 0 || current.number == 13 || current.number == 14) {
         current.number = 13;
         current.place = 0;
     }
