@@ -73,6 +73,19 @@ fn another_check() {
     read_through(&file, 3, 0);
 }
 
+// Task 2 declares cell 1 write only and is left without its operation; then the check fits the block again.
+fn forgotten_write() {
+    let mut file = flows::file_a();
+    file[64 + 2] = 0;
+    file[64 + 12] = 0;
+    file[64 + 13] = 0;
+    file[510] = 172;
+    file[511] = 0;
+    say::text(b"flow A with task 2 left without its operation\n");
+    read_through(&file, 3, 0);
+    by_number(&file, 1);
+}
+
 fn largest_flow() {
     let file = flows::largest_file();
     say::text(b"largest flow\n");
@@ -95,6 +108,7 @@ fn block_7_changed() {
 fn main() {
     flow_a();
     another_check();
+    forgotten_write();
     largest_flow();
     block_7_changed();
 }
