@@ -11,8 +11,8 @@ use Rattle.layout.specs.Bytes.{at}
 use Rattle.layout.specs.Flow.{mostCells}
 use Rattle.layout.specs.Row.{operationAt, taskOf, operationsSound, keepsModes, allKeepModes, modesSound}
 use Rattle.layout.proofs.Modes.{each-drop, each-drop-all, operation-cells, earlier, keep-next}
-use Rattle.row.specs.Table.{modeIn, withMode, tableOf, keepsTable, tableAfter, tableLeft}
-use Rattle.row.proofs.Table.{Table, table-operation, keeps-same}
+use Rattle.modes.specs.Table.{modeIn, withMode, tableOf, keepsTable, tableAfter, tableLeft}
+use Rattle.modes.proofs.Table.{Table, table-operation, keeps-same}
 
 -- what is known once the operations before i have kept to the modes
 pub record KeptSoFar (row : List ℕ) (i modes : ℕ) : Type 0 where

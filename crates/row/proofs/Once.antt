@@ -14,8 +14,8 @@ use Rattle.layout.specs.Flow.{Access, mostCells}
 use Rattle.layout.specs.Row.{accessAt, taskOf, countsSound, accessInRange, modeOf, names, namedOnce}
 use Rattle.layout.proofs.Lists.{and-left, all-keeps}
 use Rattle.layout.proofs.Modes.{each-drop-less, each-drop-all, all-drop, access-cell, access-mode, names-mode, once-drop}
-use Rattle.row.specs.Table.{modeIn, withMode, tableOf}
-use Rattle.row.proofs.Table.{table-mode, table-some}
+use Rattle.modes.specs.Table.{modeIn, withMode, tableOf}
+use Rattle.modes.proofs.Table.{table-mode, table-some}
 
 -- the answer of rule 9: the table, or 0 where a cell is named twice
 abbrev pub modesTold : List ℕ → ℕ

@@ -8,7 +8,7 @@ ghost use Rattle.layout.specs.Lists.{each, all};
 ghost use Rattle.layout.specs.Flow.{mostTasks, mostCells, mostAccesses, mostOperations};
 ghost use Rattle.layout.specs.File.{rowStart};
 ghost use Rattle.layout.specs.Row.{accessAt, taskOf, ownerSound, countsSound, accessInRange, accessesSound, namedOnce, operationSound, operationsSound, modesSound, rowRefusal};
-ghost use Rattle.row.specs.Table.{modeIn, withMode, tableOf, keepsTable, tableLeft, noneOwed};
+ghost use Rattle.modes.specs.Table.{tableOf, tableLeft};
 
 // The byte of a file at which a task's row starts: 48 bytes on from the row before it, and 32 more where a block ends in between. It is
 // worked out with one division and no remainder. A worker that goes past the last task asks where one more row would start.
@@ -89,22 +89,6 @@ fn accesses_sound(row: &[u8], cells: u32) -> bool
     octets::few_zero(&row[from..12])
 }
 
-// What a table of modes has for a cell: two binary digits.
-fn mode_in(modes: u64, cell: u8) -> u64
-    requires { ⌜ cell < mostCells ⌝ }
-    ensures { λ r. ⌜ r ≡ modeIn modes cell ⌝ }
-{
-    (modes >> (2 * (cell as u32))) & 3
-}
-
-// A table of modes with the digits of a mode set for a cell as well.
-fn with_mode(modes: u64, cell: u8, mode: u8) -> u64
-    requires { ⌜ (cell < mostCells) × (mode ≤ 3) ⌝ }
-    ensures { λ r. ⌜ r ≡ withMode modes cell mode ⌝ }
-{
-    modes | ((mode as u64) << (2 * (cell as u32)))
-}
-
 // 9: the table of modes, into which each access goes, from the last to the first; 0 where a cell is named twice.
 fn modes_of(row: &[u8]) -> u64
     requires { ⌜ length (now row) ≡ 48 ⌝ }
@@ -117,10 +101,10 @@ fn modes_of(row: &[u8]) -> u64
     while 0 < j {
         j -= 1;
         let cell = row[4 + 2 * j];
-        if mode_in(modes, cell) != 0 {
+        if modes::mode_in(modes, cell) != 0 {
             return 0;
         }
-        modes = with_mode(modes, cell, row[5 + 2 * j]);
+        modes = modes::with_mode(modes, cell, row[5 + 2 * j]);
     }
     modes
 }
@@ -171,16 +155,6 @@ fn operations_sound(row: &[u8], cells: u32) -> bool
     octets::all_zero(&row[from..48])
 }
 
-// One operation, by its code and by what the table has for its cells a and b, keeps to the modes.
-fn keeps_modes(code: u8, of_a: u64, of_b: u64) -> bool
-    ensures { λ r. ⌜ r ≡ keepsTable code «of_a» «of_b» ⌝ }
-{
-    let reads_a = (code == 3) | (code == 4) | (code == 6);
-    let reads_b = code != 1;
-    let may_write = (of_a == 2) | (of_a == 3);
-    may_write & (!reads_a | ((of_a == 1) | (of_a == 3))) & (!reads_b | ((of_b == 1) | (of_b == 3)))
-}
-
 // 11: every operation keeps to the modes. From then on the cell that it wrote may be read. The table as they leave it; 0 where one
 // doesn't.
 fn modes_left(row: &[u8], table: u64) -> u64
@@ -197,23 +171,15 @@ fn modes_left(row: &[u8], table: u64) -> u64
     let mut i = 0;
     while i < count {
         let a = row[13 + 6 * i];
-        let of_a = mode_in(modes, a);
-        let of_b = mode_in(modes, row[14 + 6 * i]);
-        if !keeps_modes(row[12 + 6 * i], of_a, of_b) {
+        let of_a = modes::mode_in(modes, a);
+        let of_b = modes::mode_in(modes, row[14 + 6 * i]);
+        if !modes::keeps_modes(row[12 + 6 * i], of_a, of_b) {
             return 0;
         }
-        modes = with_mode(modes, a, 1);
+        modes = modes::with_mode(modes, a, 1);
         i += 1;
     }
     modes
-}
-
-// 17: no cell of the table is left under mode 2. All cells are asked at once: mode 2 alone has an upper digit without the lower.
-fn none_owed(modes: u64) -> bool
-    ensures { λ r. ⌜ r ≡ noneOwed modes ⌝ }
-{
-    let uppers = (modes >> 1) & 0x5555555555555555;
-    (modes | uppers) == modes
 }
 
 // The first of 6 to 11 that the row breaks, or 17; 0 where it breaks none.
@@ -242,7 +208,7 @@ pub fn refusal(row: &[u8], workers: u32, cells: u32) -> u32
     if left == 0 {
         return 11;
     }
-    if !none_owed(left) {
+    if !modes::none_owed(left) {
         return 17;
     }
     0

@@ -7,8 +7,8 @@ use borrow.Author.Tests.{not-true, not-false}
 use Rattle.layout.specs.Bytes.{at}
 use Rattle.layout.specs.Flow.{mostCells, mostOperations}
 use Rattle.layout.proofs.Modes.{counts-kept}
-use Rattle.row.specs.Table.{keepsTable}
-use Rattle.row.proofs.Table.{table-first}
+use Rattle.modes.specs.Table.{keepsTable}
+use Rattle.modes.proofs.Table.{table-first}
 use Rattle.row.proofs.Keeps.{KeptSoFar, OperationTurn, kept-none, step-cells, asked, breaks, kept-next, kept-all, left-all}
 use Rattle.row.proofs.modes_left.Statement.{statement}
 use Rattle.row.proofs.modes_left.Tie as tie

@@ -8,10 +8,10 @@ use Rattle.layout.specs.Refusal.{firstBroken}
 use Rattle.layout.specs.Lists.{all}
 use Rattle.layout.specs.Row.{taskOf, ownerSound, countsSound, accessInRange, accessesSound, namedOnce, operationsSound, modesSound, rowRefusal}
 use Rattle.layout.proofs.Modes.{accesses-more, operations-more}
-use Rattle.row.specs.Table.{tableOf, tableLeft, noneOwed}
+use Rattle.modes.specs.Table.{tableOf, tableLeft, noneOwed}
 use Rattle.row.proofs.Told.{told-kept, told-broken}
 use Rattle.row.proofs.Once.{table-named}
-use Rattle.row.proofs.Owed.{after-some, owed-same}
+use Rattle.modes.proofs.Owed.{after-some, owed-same}
 use Rattle.row.proofs.refusal.Statement.{statement}
 use Rattle.row.proofs.refusal.Tie as tie
 

@@ -15,8 +15,8 @@ use Rattle.layout.specs.Flow.{Access, Operation}
 use Rattle.layout.specs.Row.{accessInRange, modeOf, names, namedOnce, written, mayWrite, mayRead, keepsModes}
 use Rattle.layout.proofs.Lists.{and-false, and-left, and-right}
 use Rattle.layout.proofs.Modes.{access-mode, names-mode}
-use Rattle.row.specs.Table.{modeIn, withMode, tableOf, readable, keepsTable}
-use Rattle.row.proofs.Digits.{mode-with}
+use Rattle.modes.specs.Table.{modeIn, withMode, tableOf, readable, keepsTable}
+use Rattle.modes.proofs.Digits.{mode-with}
 
 -- a cell's mode after some operations
 abbrev pub modeAfter : List Access → List Operation → ℕ → ℕ

@@ -1,8 +1,8 @@
--- `row::mode_in` meets its contract: what is shifted down and cut to two digits is the cell's.
+-- `modes::mode_in` meets its contract: what is shifted down and cut to two digits is the cell's.
 use borrow.Author.Needs.{needs}
 use lib.Bits.{and-mask}
-use Rattle.row.proofs.mode_in.Statement.{statement}
-use Rattle.row.proofs.mode_in.Tie as tie
+use Rattle.modes.proofs.mode_in.Statement.{statement}
+use Rattle.modes.proofs.mode_in.Tie as tie
 
 returns : tie.Need-returns
 returns c = and-mask _ 2

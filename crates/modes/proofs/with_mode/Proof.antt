@@ -1,12 +1,12 @@
--- `row::with_mode` meets its contract: two digits that are shifted to a cell's place are still there.
+-- `modes::with_mode` meets its contract: two digits that are shifted to a cell's place are still there.
 use mathlib.Core.Path.{ap}
 use Prim.Native.Nat.{_*_, _<_}
 use native.Mathlib.Omega.{arith}
 use borrow.Author.Needs.{needs}
 use lib.Bits.{bitOr}
 use lib.Pow.{shl-exact}
-use Rattle.row.proofs.with_mode.Statement.{statement}
-use Rattle.row.proofs.with_mode.Tie as tie
+use Rattle.modes.proofs.with_mode.Statement.{statement}
+use Rattle.modes.proofs.with_mode.Tie as tie
 
 returns : tie.Need-returns
 returns c =

@@ -12,8 +12,8 @@ use Rattle.layout.specs.Flow.{Access, Operation, Task, mostCells}
 use Rattle.layout.specs.Row.{accessInRange, modeOf, names, namedOnce, written, allKeepModes, keepsModes, modesSound, writeMade, writesMade}
 use Rattle.layout.proofs.Lists.{and-left, and-right, and-both, or-swap, same-test, all-same, all-pass, all-keeps}
 use Rattle.layout.proofs.Modes.{namedAs, write-of}
-use Rattle.row.specs.Table.{modeIn, withMode, tableOf, tableAfter, tableLeft, owed, noneOwed}
-use Rattle.row.proofs.Table.{Table, modeAfter, unnamed, table-first, table-operation, table-some}
+use Rattle.modes.specs.Table.{modeIn, withMode, tableOf, tableAfter, tableLeft, owed, noneOwed}
+use Rattle.modes.proofs.Table.{Table, modeAfter, unnamed, table-first, table-operation, table-some}
 
 -- ---- the table after all operations
 

@@ -10,7 +10,7 @@ use lib.Pow.{shr-shr}
 use lib.Dec.{eqb}
 use Rattle.layout.specs.Lists.{each, all}
 use Rattle.layout.proofs.Lists.{all-same}
-use Rattle.row.specs.Table.{owed}
+use Rattle.modes.specs.Table.{owed}
 
 -- a 1 at the lower digit of each of so many cells
 unfoldable pub lowers : ℕ → ℕ

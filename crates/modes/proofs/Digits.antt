@@ -8,7 +8,7 @@ use borrow.Author.Tests.{ltb-true, ltb-false, eqb-true, eqb-false}
 use lib.Bits.{bitOr, or-shr, or-mod, or-zero-r}
 use lib.Pow.{pow-add, shl-shr, shr-shr}
 use lib.Dec.{eqb, ltb}
-use Rattle.row.specs.Table.{modeIn, withMode}
+use Rattle.modes.specs.Table.{modeIn, withMode}
 
 -- the digits of two numbers together
 mode-or : (l r cell : ℕ) → modeIn (bitOr l r) cell ≡ bitOr (modeIn l cell) (modeIn r cell)
