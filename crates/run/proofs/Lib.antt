@@ -2,7 +2,6 @@
 pub mod Demand
 pub mod Done
 pub mod Held
-pub mod Noted
 pub mod OneByOne
 pub mod Outcomes
 pub mod Finished

@@ -23,9 +23,9 @@ use Rattle.steps.proofs.Held.{held-more, held-within}
 use Rattle.arrays.specs.Arrays.{counterOf, counterAt, numbersOf, placeOf, Arrays, arrays, machineOf, Ready, Placed, mostReads, ReadsAtMost, Steppable, settingIn, StepDone}
 use Rattle.arrays.proofs.Places.{none-made, begun}
 use Rattle.arrays.proofs.Growth.{more-reads, file-step-reads}
-use Rattle.run.specs.Noted.{countAt, countedMore, keptFor}
+use Rattle.notes.specs.Noted.{countAt, countedMore, keptFor}
+use Rattle.notes.proofs.Noted.{latestBy, Noted, none-noted, noted-more, count-fits, counts-at}
 use Rattle.run.specs.Promises.{Walked}
-use Rattle.run.proofs.Noted.{latestBy, Noted, none-noted, noted-more, count-fits, counts-at}
 
 -- ---- the fresh start
 

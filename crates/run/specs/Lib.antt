@@ -1,6 +1,5 @@
 -- What the public calls that run a flow promise.
 pub mod Demand
 pub mod Held
-pub mod Noted
 pub mod Promises
 pub mod Written

@@ -1,5 +1,4 @@
 // The plain run and the stepped run of a flow file, from lent cells. Each takes every input, and answers with 01's number and place.
-mod noting;
 mod plainly;
 mod scheduled;
 mod telling;

@@ -1,11 +1,11 @@
 // The stepped run: the schedule's bytes, one after another, each name a worker that takes a step.
 use crate::RunAnswer;
-use crate::noting::note;
 use crate::telling::all_past;
 use crate::telling::done_tasks;
 use file::Answer;
 use flow::Flow;
 use machine::stepping::step;
+use notes::note;
 ghost use mathlib.Core.Path.{_≡_};
 ghost use Prim.Native.Nat.{_≤_};
 ghost use lib.ListN.{length, getD};

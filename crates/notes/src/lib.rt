@@ -7,13 +7,13 @@ ghost use Prim.Native.Nat.{_<_};
 ghost use Rattle.layout.specs.Flow.{mostWorkers};
 ghost use Rattle.steps.specs.Held.{reasonOf, cellOf};
 ghost use Rattle.machine.specs.Outcomes.{outcomeOf};
-ghost use Rattle.run.specs.Noted.{countAt, countedMore, keptFor};
+ghost use Rattle.notes.specs.Noted.{countAt, countedMore, keptFor};
 
 // How many steps were held for each reason: past the last task, the last write differs, the reads differ.
-pub(crate) type Counts = [u32; 3];
+pub type Counts = [u32; 3];
 
 // A number for each worker.
-pub(crate) type PerWorker = [u32; Flow::ROOM_FOR_WORKERS];
+pub type PerWorker = [u32; Flow::ROOM_FOR_WORKERS];
 
 // The numbers of an outcome: its reason, and the cell that it names.
 fn numbers(why: Outcome) -> [u32; 2]
@@ -28,7 +28,7 @@ fn numbers(why: Outcome) -> [u32; 2]
 }
 
 // One step more: a held one is counted, and is its worker's latest.
-pub(crate) fn note(
+pub fn note(
     why: Outcome,
     w: usize,
     counts: &mut Counts,

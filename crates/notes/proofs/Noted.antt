@@ -15,7 +15,7 @@ use Rattle.steps.specs.Step.{Outcome, advanced, pastLast, writeDiffers, readsDi
 use Rattle.steps.specs.Held.{reasonOf, cellOf, Named, named, heldFor, latter, latestOf}
 use Rattle.steps.proofs.Held.{held-more, latest-more, held-within, latter-held}
 use Rattle.arrays.specs.Arrays.{movesOn}
-use Rattle.run.specs.Noted.{countAt, countedMore, keptFor}
+use Rattle.notes.specs.Noted.{countAt, countedMore, keptFor}
 
 -- ---- the counts
 

@@ -1,4 +1,4 @@
--- `noting::note` meets its contract: a reason above 0 says that the step was held, and it is counted in the reason's own place.
+-- `notes::note` meets its contract: a reason above 0 says that the step was held, and it is counted in the reason's own place.
 use mathlib.Core.Path.{_≡_, refl, ap, _∙_}
 use mathlib.Core.List.{List}
 use Prim.Native.Nat.{ℕ, _+_, _-_, _<_, _≤_}
@@ -8,9 +8,9 @@ use lib.ListN.{getD}
 use Rattle.steps.specs.Step.{Outcome}
 use Rattle.steps.specs.Held.{reasonOf, cellOf}
 use Rattle.machine.specs.Outcomes.{outcomeOf}
-use Rattle.run.proofs.Noted.{some-reason, no-reason, reason-fits}
-use Rattle.run.proofs.noting.note.Statement.{statement}
-use Rattle.run.proofs.noting.note.Tie as tie
+use Rattle.notes.proofs.Noted.{some-reason, no-reason, reason-fits}
+use Rattle.notes.proofs.note.Statement.{statement}
+use Rattle.notes.proofs.note.Tie as tie
 
 -- what became of the step
 abbrev why-of : tie.After-numbers → Outcome

@@ -1,4 +1,4 @@
--- `noting::numbers` meets its contract: in the arm of each outcome the numbers are those that the rules give it.
+-- `notes::numbers` meets its contract: in the arm of each outcome the numbers are those that the rules give it.
 use mathlib.Core.Path.{sym, ap}
 use mathlib.Core.List.{List, [], _∷_}
 use Prim.Native.Nat.{ℕ}
@@ -6,8 +6,8 @@ use borrow.Author.Needs.{needs}
 use Rattle.steps.specs.Held.{reasonOf, cellOf}
 use Rattle.machine.specs.declared.Outcome.{Outcome}
 use Rattle.machine.specs.Outcomes.{outcomeOf}
-use Rattle.run.proofs.noting.numbers.Statement.{statement}
-use Rattle.run.proofs.noting.numbers.Tie as tie
+use Rattle.notes.proofs.numbers.Statement.{statement}
+use Rattle.notes.proofs.numbers.Tie as tie
 
 -- the numbers of an outcome
 abbrev numbersOf : Outcome → List ℕ

@@ -1,0 +1,2 @@
+-- How a run keeps what it tells of its held steps.
+pub mod Noted
