@@ -14,11 +14,12 @@ use Rattle.layout.proofs.Lists.{all-fails}
 use Rattle.roundtrip.proofs.NoRefusal.{both-zero}
 use Rattle.steps.specs.Operations.{effect}
 use Rattle.steps.specs.Plain.{afterTasks}
-use Rattle.steps.specs.Step.{Setting, Outcome, advanced, step}
+use Rattle.steps.specs.Step.{Outcome, advanced, step}
 use Rattle.steps.specs.Run.{Run, counted, runFrom, run, finished}
 use Rattle.steps.specs.Answers.{plainAnswer, plainCells, runAnswer, runTold, runCells}
 use Rattle.steps.specs.Demand.{Given, Demand3}
 use Rattle.steps.proofs.Accepted.{reads-only-a}
+use Rattle.steps.proofs.Along.{from-append}
 use Rattle.steps.proofs.Given.{accepted-given, given-more, given-accepted}
 use Rattle.steps.proofs.Theorems.{holds, at-any-point, history-leaves, never-early-at}
 use Rattle.run.specs.declared.PlainAnswer.{PlainAnswer}
@@ -26,26 +27,15 @@ use Rattle.run.specs.declared.RunAnswer.{RunAnswer}
 use Rattle.run.specs.Promises.{PlainPromise, RunPromise}
 use Rattle.run.specs.Demand.{flowIn, RunDemand}
 
--- ---- the steps
-
--- a schedule with one byte more: one step more
-one-more : (s : Setting) (before : Run) (schedule : List ℕ) (w : ℕ)
-    → runFrom s before (schedule ++ w ∷ [])
-    ≡ counted (runFrom s before schedule) (step s (runFrom s before schedule .machine) w .outcome) (step s (runFrom s before schedule .machine) w .machine)
-unfolding runFrom
-one-more s before [] w = refl
-one-more s before (x ∷ schedule) w =
-    one-more s (counted before (step s (before .machine) x .outcome) (step s (before .machine) x .machine)) schedule w
-
 -- 1 or 0 for true or false
-abbrev told : Bool → ℕ
+abbrev pub told : Bool → ℕ
 told b = cond b 1 0
 
 told-true : (b : Bool) → told b ≡ 1 → b ≡ true
 told-true true e = refl
 told-true false e = absurd (omega arith)
 
-told-false : (b : Bool) → told b ≡ 0 → b ≡ false
+pub told-false : (b : Bool) → told b ≡ 0 → b ≡ false
 told-false false e = refl
 told-false true e = absurd (omega arith)
 
@@ -64,7 +54,11 @@ module _ (file cells schedule : List ℕ) (r : RunAnswer) (after : List ℕ) (pr
   unfolding runTold
   counted-steps = ap (λ (a : RunAnswer). a .advanced) (promised .answer) ∙ whole (run (flowIn file) cells schedule .advanced)
 
-  told-finished : r .finished ≡ told (finished (flowOf file .workers) (flowOf file .tasks) (run (flowIn file) cells schedule .machine))
+  pub counted-held : r .held ≡ run (flowIn file) cells schedule .held
+  unfolding runTold
+  counted-held = ap (λ (a : RunAnswer). a .held) (promised .answer) ∙ whole (run (flowIn file) cells schedule .held)
+
+  pub told-finished : r .finished ≡ told (finished (flowOf file .workers) (flowOf file .tasks) (run (flowIn file) cells schedule .machine))
   unfolding runTold
   told-finished = ap (λ (a : RunAnswer). a .finished) (promised .answer) ∙ whole _
 
@@ -121,10 +115,10 @@ advanced-more : (file cells schedule : List ℕ) (r s : RunAnswer) (after s-afte
     → RunPromise file cells (schedule ++ w ∷ []) s s-after
     → s .number ≡ 0
     → s .advanced ≡ r .advanced + 1
-unfolding counted
+unfolding runFrom counted
 advanced-more file cells schedule r s after s-after w promised taken advances more more-taken =
     counted-steps file cells (schedule ++ w ∷ []) s s-after more more-taken
-    ∙ ap (λ (a : Run). a .advanced) (one-more (flowIn file) _ schedule w)
+    ∙ ap (λ (a : Run). a .advanced) (from-append (flowIn file) _ schedule (w ∷ []))
     ∙ ap (λ (o : Outcome). counted (run (flowIn file) cells schedule) o (step (flowIn file) (run (flowIn file) cells schedule .machine) w .machine) .advanced) advances
     ∙ ap (λ (n : ℕ). n + 1) (sym (counted-steps file cells schedule r after promised taken))
 

@@ -1,6 +1,5 @@
--- Progress. Take a worker that has gone past the fewest tasks. Where the owner of the next task has gone further, the worker is at another's task
--- and registers it, which is never held. Where the owner is at it, all earlier tasks are complete, so nobody later can have posted or zeroed a cell
--- that it still waits for, and its step advances.
+-- Progress. Take a worker that has gone past the fewest tasks. At another's task it registers it, which is never held. At a task of its own all earlier
+-- tasks are complete, so nobody later can have posted or zeroed a cell that it still waits for, and its step advances.
 use mathlib.Core.Path.{_≡_, refl, ap, _∙_}
 use mathlib.Core.Bool.{Bool, true, false}
 use Prim.Native.Nat.{ℕ, zero, suc, _<_, _≤_}
@@ -90,37 +89,18 @@ module _ (s : Setting) (workers cells : ℕ) (keep : AllKeep workers cells (s .t
   all-past w inside least c i l between =
       past-ended c i (omega arith) (omega (arith, least _ (keep .each-task i (omega arith) .owned)))
 
-  -- a worker that has gone past the fewest tasks advances, or the owner of its task does
-  pub progress : Progress s workers m
-  progress left inside more = go (least-below (λ v. m .places v .passed) workers left inside)
+  -- a worker that has gone past the fewest tasks, and has tasks left, advances
+  pub lowest : (w : ℕ) → m .places w .passed < length (s .tasks) → ((v : ℕ) → v < workers → m .places w .passed ≤ m .places v .passed)
+      → step s m w .outcome ≡ advanced
+  lowest w at-task least = go (view s m w (k .standing .each-worker w))
     where
-      go : Least (λ v. m .places v .passed) workers → (w : ℕ) × (w < workers) × (step s m w .outcome ≡ advanced)
-      go best =
-          order (m .places o .passed) (m .places v .passed) (λ l. absurd (omega (arith, best .least o owned)))
-          (λ e. (o, owned, at-own e (view s m o (k .standing .each-worker o))))
-          (λ l. (v, best .inside, at-other l (view s m v (k .standing .each-worker v))))
-        where
-          v : ℕ
-          v = best .at
+      go : {r : Stepped} → StepView s m w r → r .outcome ≡ advanced
+      go (past e) = absurd (omega arith)
+      go (other h not-own none) = refl
+      go (held trying e waits) = absurd (not-held w (all-past w (omega arith) least) trying waits)
+      go (StepView.made trying e passes) = refl
 
-          at-task : m .places v .passed < length (s .tasks)
-          at-task = omega (arith, best .least left inside)
-
-          o : ℕ
-          o = facing s m v .owner
-
-          owned : o < workers
-          owned = keep .each-task _ at-task .owned
-
-          at-own : m .places o .passed ≡ m .places v .passed → {r : Stepped} → StepView s m o r → r .outcome ≡ advanced
-          at-own e (past q) = absurd (omega (arith, at-task))
-          at-own e (other h not-own none) = absurd (not-own (ap (λ (i : ℕ). taskAt (s .tasks) i .owner) e))
-          at-own e (held trying q waits) =
-              absurd (not-held o (all-past o (omega (arith, at-task)) (λ u h. omega (arith, best .least u h))) trying waits)
-          at-own e (StepView.made trying q passes) = refl
-
-          at-other : m .places v .passed < m .places o .passed → {r : Stepped} → StepView s m v r → r .outcome ≡ advanced
-          at-other l (past q) = absurd (omega (arith, at-task))
-          at-other l (other h not-own none) = refl
-          at-other l (held trying q waits) = absurd (omega (arith, ap (λ (u : ℕ). m .places u .passed) (trying .owns)))
-          at-other l (StepView.made trying q passes) = refl
+  pub progress : Progress s workers m
+  progress left inside more =
+      let best = least-below (λ v. m .places v .passed) workers left inside in
+      (best .at, best .inside, lowest (best .at) (omega (arith, best .least left inside)) (best .least))

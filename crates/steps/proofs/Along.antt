@@ -25,6 +25,12 @@ counted-machine before pastLast after = refl
 counted-machine before (writeDiffers c) after = refl
 counted-machine before (readsDiffer c) after = refl
 
+-- bytes laid end to end are run one after another
+pub from-append : (s : Setting) (before : Run) (one other : List ℕ) → runFrom s before (one ++ other) ≡ runFrom s (runFrom s before one) other
+unfolding runFrom
+from-append s before [] other = refl
+from-append s before (w ∷ one) other = from-append s (afterStep s before w) one other
+
 module _ (s : Setting) (workers : ℕ) where
   -- P tells of the operations made so far and of the run that made them
   pub along-history : (P : List Entry → Run → Type 0)

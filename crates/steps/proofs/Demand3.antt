@@ -88,7 +88,7 @@ module _ (s : Setting) (workers : ℕ) (start schedule : List ℕ) (asked : Aske
   cells-left = tells .left
 
   -- an operation that is made next is one of its task, within the modes: it stands last in the history of one step more
-  declared-next : (w : ℕ) (e : Entry) → madeBy s (run s start schedule .machine) w ≡ e ∷ [] → Declared s e
+  pub declared-next : (w : ℕ) (e : Entry) → madeBy s (run s start schedule .machine) w ≡ e ∷ [] → Declared s e
   declared-next w e makes =
       let before : List Entry = history s start schedule in
       let after = recorded-step s workers (length start) (asked .keep) (asked .modes) before (run s start schedule .machine) w (tells .kept) (tells .recorded) in

@@ -1,14 +1,14 @@
 -- What demand 3 is given, and what the stepped run accepts: the run asks besides only that the schedule is no longer than the longest. Bytes that
--- name workers do so in any part of a schedule, and with one worker's byte more.
+-- name workers do so in any part of a schedule, and in two laid end to end.
 use mathlib.Core.Path.{_≡_, sym, ap, subst, _∙_}
 use mathlib.Core.Bool.{Bool, true}
 use mathlib.Core.List.{List, [], _∷_, _++_}
-use Prim.Native.Nat.{ℕ, _<_}
+use Prim.Native.Nat.{ℕ, zero, suc, _+_, _-_, _≤_, _<_}
 use native.Mathlib.Nat.{zero-add}
 use native.Mathlib.Omega.{arith}
 use borrow.Author.Tests.{eqb-true, eq-eqb, lt-ltb, ltb-true}
 use lib.ListN.{length, getD, take, drop, length-append, length-take, take-append-drop, List·getD-append}
-use lib.Seq.{getD-append-seam}
+use lib.Seq.{getD-append-add}
 use lib.Dec.{ltb, lit<}
 use Rattle.layout.specs.Refusal.{Answer, unless}
 use Rattle.layout.specs.File.{fileAnswer, flowOf}
@@ -28,16 +28,25 @@ names-first workers n schedule names i h =
     let inside : i < length schedule = omega (arith, length-take n schedule) in
     subst (λ (byte : ℕ). byte < workers) (ap (λ (l : List ℕ). getD l i 0) (sym whole) ∙ same) (names i inside)
 
--- with one byte more
-names-more : (workers w : ℕ) (schedule : List ℕ) → w < workers → Names workers schedule → Names workers (schedule ++ w ∷ [])
-names-more workers w schedule below names i h =
-    order i (length schedule)
-    (λ l. subst (λ (byte : ℕ). byte < workers) (sym (List·getD-append schedule (w ∷ []) 0 i l)) (names i l))
-    (λ e.
-    subst (λ (byte : ℕ). byte < workers)
-    (sym (ap (λ (n : ℕ). getD (schedule ++ w ∷ []) n 0) e ∙ getD-append-seam schedule w [] 0))
-    below)
-    (λ l. absurd (omega (arith, length-append schedule (w ∷ []))))
+-- in two schedules laid end to end
+pub names-append : (workers : ℕ) (one other : List ℕ) → Names workers one → Names workers other → Names workers (one ++ other)
+names-append workers one other names more i h =
+    order i (length one)
+    (λ l. subst (λ (byte : ℕ). byte < workers) (sym (List·getD-append one other 0 i l)) (names i l))
+    (λ e. after (omega arith))
+    (λ l. after (omega arith))
+  where
+    after : length one ≤ i → getD (one ++ other) i 0 < workers
+    after l =
+        let there : length one + (i - length one) ≡ i = omega arith in
+        subst (λ (byte : ℕ). byte < workers)
+        (sym (ap (λ (n : ℕ). getD (one ++ other) n 0) (sym there) ∙ getD-append-add one other (i - length one) 0))
+        (more (i - length one) (omega (arith, length-append one other)))
+
+-- one worker's byte names a worker
+one-names : (workers w : ℕ) → w < workers → Names workers (w ∷ [])
+one-names workers w below zero h = below
+one-names workers w below (suc i) h = absurd (omega arith)
 
 -- ---- what is given
 
@@ -49,7 +58,7 @@ given-first file cells schedule n given =
 pub given-more : (file cells schedule : List ℕ) (w : ℕ) → w < flowOf file .workers → Given file cells schedule
     → Given file cells (schedule ++ w ∷ [])
 given-more file cells schedule w below given =
-    record { accepted = given .accepted; start = given .start; names = names-more (flowOf file .workers) w schedule below (given .names) }
+    record { accepted = given .accepted; start = given .start; names = names-append (flowOf file .workers) schedule (w ∷ []) (given .names) (one-names (flowOf file .workers) w below) }
 
 -- ---- what the run accepts
 

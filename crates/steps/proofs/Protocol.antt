@@ -1,13 +1,13 @@
 -- The counters of a cell keep its tasks in list order, under every schedule of steps. A wait for the last write passes only where every
 -- write before the task has posted, since a number is posted by one task alone; a write's wait for the reads passes only where every
 -- read since that write has ended, since each of them counts once; and a task with nobody unfinished before it finds both counters as
--- it waits for them.
+-- it waits for them. So what a wait has found stays so, whatever the other tasks do.
 use mathlib.Core.Path.{_≡_, refl, sym, ap, _∙_}
 use Prim.Native.Nat.{ℕ, zero, suc, _<_}
 use native.Mathlib.Omega.{arith}
 use Rattle.steps.proofs.Protocol.Words.{Kind, none, read, write, full, next, lastBefore, sumBefore, State, start, StagePasses, Allowed, lastWriteAfter, readsAfter, after, Apart, Ended, Acquired, InConflict}
 use Rattle.steps.proofs.Protocol.Before.{sum-same, sum-none}
-use Rattle.steps.proofs.Protocol.Invariant.{counts, Inv, open-after-posted}
+use Rattle.steps.proofs.Protocol.Invariant.{counts, Inv, open-after-posted, writes-ended, reads-ended}
 use Rattle.steps.proofs.Protocol.Steps.{Now, wait-write, wait-reads, end-read, zero-reads, post-write}
 pub mod Words
 pub mod Before
@@ -60,6 +60,12 @@ module _ (kind : ℕ → Kind) (number : ℕ → ℕ) (n : ℕ) where
       go write read ke le has c = I .order .begun i j h ke has
       go write write ke le has c = I .order .alone i j h le has
 
+  -- a task with steps left finds the last write that it waits for where all writes before it have ended
+  pub inv-shown : (st : State) → Inv kind number n st → (p : ℕ) → st .stage p < full (kind p)
+      → ((i : ℕ) → i < p → kind i ≡ write → Ended kind (st .stage) i)
+      → st .lastWrite ≡ number (lastBefore kind p)
+  inv-shown st I p h ended = I .shown ∙ ap number (sym (open-after-posted kind number n st I p h ended))
+
   -- a task is not held where all tasks before it that are in conflict with it have ended
   pub inv-free : (st : State) → Inv kind number n st → (p : ℕ) → ((i : ℕ) → i < p → InConflict (kind i) (kind p) → Ended kind (st .stage) i)
       → st .stage p < full (kind p)
@@ -72,11 +78,14 @@ module _ (kind : ℕ → Kind) (number : ℕ → ℕ) (n : ℕ) where
       with-write read s l = tt
       with-write write s l = tt
 
+      writes-before : (i : ℕ) → i < p → kind i ≡ write → Ended kind (st .stage) i
+      writes-before i l w = ended i l (rw w (with-write (kind p) (st .stage p) h))
+
       opened : lastBefore kind p ≡ I .last
-      opened = open-after-posted kind number n st I p h (λ i l w. ended i l (rw w (with-write (kind p) (st .stage p) h)))
+      opened = open-after-posted kind number n st I p h writes-before
 
       shown : st .lastWrite ≡ number (lastBefore kind p)
-      shown = I .shown ∙ ap number (sym opened)
+      shown = inv-shown st I p h writes-before
 
       go : (k : Kind) (s : ℕ) → kind p ≡ k → st .stage p ≡ s → s < full k → StagePasses kind number st p (next k s)
       go none s ke se l = tt
@@ -90,3 +99,29 @@ module _ (kind : ℕ → Kind) (number : ℕ → ℕ) (n : ℕ) where
       go write (suc (suc zero)) ke se l = tt
       go write (suc (suc (suc zero))) ke se l = tt
       go write (suc (suc (suc (suc s)))) ke se l = tt
+
+  -- a task that is not held stays so, as long as those that have ended stay ended and it makes no step itself
+  pub inv-stays : Apart number n → (st later : State) → Inv kind number n st → Inv kind number n later
+      → ((i : ℕ) → Ended kind (st .stage) i → Ended kind (later .stage) i)
+      → (p : ℕ) → p < n → st .stage p < full (kind p) → later .stage p ≡ st .stage p
+      → Allowed kind number st p
+      → Allowed kind number later p
+  inv-stays apart st later I L still p b h same allowed = rw same (go (kind p) (st .stage p) refl refl allowed)
+    where
+      left : later .stage p < full (kind p)
+      left = omega arith
+
+      shown : st .lastWrite ≡ number (lastBefore kind p) → later .lastWrite ≡ number (lastBefore kind p)
+      shown passed = inv-shown later L p left (λ i l w. still i (writes-ended kind number n st I apart p b passed i l w))
+
+      go : (k : Kind) (s : ℕ) → kind p ≡ k → st .stage p ≡ s → StagePasses kind number st p (next k s) → StagePasses kind number later p (next k s)
+      go none s ke se passed = tt
+      go read zero ke se passed = shown passed
+      go read (suc zero) ke se passed = tt
+      go read (suc (suc s)) ke se passed = tt
+      go write zero ke se passed = shown passed
+      go write (suc zero) ke se passed =
+          rw (ke, same, se) at (inv-free later L p (λ i l between. still i (reads-ended kind number n st I p ke se passed i l)) left)
+      go write (suc (suc zero)) ke se passed = tt
+      go write (suc (suc (suc zero))) ke se passed = tt
+      go write (suc (suc (suc (suc s)))) ke se passed = tt

@@ -5,10 +5,10 @@ use mathlib.Core.Path.{_≡_, refl, sym, ap, _∙_}
 use mathlib.Core.Bool.{Bool, true}
 use mathlib.Core.Logic.{_↔_, ⊎-elim}
 use mathlib.Core.List.{List, [], _∷_}
-use Prim.Native.Nat.{ℕ, suc, _+_, _-_, _≤_, _<_}
+use Prim.Native.Nat.{ℕ, zero, suc, _+_, _-_, _≤_, _<_}
 use native.Mathlib.Nat.{eq-or-lt-of-le}
 use native.Mathlib.Omega.{arith}
-use lib.ListN.{length}
+use lib.ListN.{length, getD, take}
 use lib.Dec.{leb}
 use borrow.Author.Tests.{eq-eqb, ne-eqb, leb-true, le-leb}
 use Rattle.layout.specs.Lists.{each, all}
@@ -122,6 +122,37 @@ counted-from s before (w ∷ schedule) = omega (arith, counted-from s (afterStep
     one pastLast = omega arith
     one (writeDiffers c) = omega arith
     one (readsDiffer c) = omega arith
+
+-- and neither count falls
+pub counts-no-less : (s : Setting) (before : Run) (schedule : List ℕ)
+    → (before .held ≤ runFrom s before schedule .held) × (before .advanced ≤ runFrom s before schedule .advanced)
+unfolding runFrom counted
+counts-no-less s before [] = (omega arith, omega arith)
+counts-no-less s before (w ∷ schedule) =
+    let first = one (step s (before .machine) w .outcome) in
+    let rest = counts-no-less s (afterStep s before w) schedule in
+    (omega (arith, first .0, rest .0), omega (arith, first .1, rest .1))
+  where
+    one : (why : Outcome)
+        → (before .held ≤ counted before why (step s (before .machine) w .machine) .held)
+        × (before .advanced ≤ counted before why (step s (before .machine) w .machine) .advanced)
+    one advanced = (omega arith, omega arith)
+    one pastLast = (omega arith, omega arith)
+    one (writeDiffers c) = (omega arith, omega arith)
+    one (readsDiffer c) = (omega arith, omega arith)
+
+-- where the step of a byte advances, the count is larger
+pub advances-one : (s : Setting) (before : Run) (schedule : List ℕ) (k : ℕ) → k < length schedule
+    → step s (runFrom s before (take k schedule) .machine) (getD schedule k 0) .outcome ≡ advanced
+    → before .advanced < runFrom s before schedule .advanced
+unfolding runFrom counted
+advances-one s before [] k h free = absurd (omega arith)
+advances-one s before (w ∷ schedule) zero h free =
+    let first : afterStep s before w .advanced ≡ before .advanced + 1 =
+    ap (λ (why : Outcome). counted before why (step s (before .machine) w .machine) .advanced) free in
+    omega (arith, counts-no-less s (afterStep s before w) schedule .1)
+advances-one s before (w ∷ schedule) (suc k) h free =
+    omega (arith, counts-no-less s before (w ∷ []) .1, advances-one s (afterStep s before w) schedule k (omega arith) free)
 
 pub all-counted : (s : Setting) (cells schedule : List ℕ)
     → run s cells schedule .held + run s cells schedule .advanced ≡ length schedule
