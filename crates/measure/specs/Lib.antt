@@ -1,3 +1,2 @@
--- What is measured of a flow file, and the schedule that names the workers in turn.
+-- What is measured of a flow file.
 pub mod Promises
-pub mod Turns

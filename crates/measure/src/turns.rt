@@ -1,7 +1,7 @@
 // The schedule that names the workers in turn.
 ghost use mathlib.Core.Path.{_≡_};
 ghost use lib.ListN.{length};
-ghost use Rattle.measure.specs.Turns.{nextTurn, turns};
+ghost use Rattle.steps.specs.Turns.{nextTurn, turns};
 
 // The worker after one, and after the last the first again.
 fn next_turn(workers: u8, w: u8) -> u8

@@ -1,4 +1,4 @@
--- P1 to P10, demand 3 and the auditor's question (`Theorems`), and what they rest on.
+-- P1 to P10, demand 3 and the auditor's question (`Theorems`), how long it can be kept waiting (`Waiting`), and what they rest on.
 pub mod Accepted
 pub mod Advance
 pub mod Along
@@ -8,13 +8,17 @@ pub mod Complete
 pub mod Demand3
 pub mod Done
 pub mod Errors
+pub mod Free
 pub mod Given
 pub mod Held
 pub mod History
 pub mod Invariant
 pub mod Kind
+pub mod Largest
 pub mod Leaves
+pub mod Longest
 pub mod Modes
+pub mod Named
 pub mod Naming
 pub mod OnCell
 pub mod OwnMade
@@ -24,15 +28,18 @@ pub mod Places
 pub mod Plain
 pub mod Protocol
 pub mod Put
+pub mod Reach
 pub mod Reading
 pub mod Registered
 pub mod Rows
 pub mod Scan
 pub mod Seen
 pub mod Sides
+pub mod Stretches
 pub mod Sums
 pub mod Theorems
 pub mod Total
 pub mod Touching
 pub mod Values
+pub mod Waiting
 pub mod Written

@@ -3,13 +3,14 @@
 -- fewer steps advance than the total; the fourth in case P10. `proofs/Errors.antt` proves the table under a single statement.
 use mathlib.Core.Bool.{cond}
 use mathlib.Core.List.{List, [], _∷_, _++_}
-use Prim.Native.Nat.{ℕ, zero, suc}
+use Prim.Native.Nat.{ℕ}
 use lib.ListN.{replicate}
 use Rattle.layout.specs.Flow.{Access, Operation, Task, Flow}
 use Rattle.layout.specs.Cases.{Case, gives}
 use Rattle.steps.specs.Operations.{effect}
 use Rattle.steps.specs.Plain.{afterTasks}
 use Rattle.steps.specs.Run.{Run, run, settingOf, finished, total}
+use Rattle.steps.specs.Turns.{turns}
 
 -- ---- the tasks, each of a worker, over two cells
 
@@ -37,13 +38,6 @@ resets owner k = task owner (access 0 3 ∷ []) (operation 1 0 0 k ∷ [])
 abbrev pub doubles : ℕ → Task
 doubles owner = task owner (access 0 3 ∷ []) (operation 3 0 0 0 ∷ [])
 
--- ---- the orders of work
-
--- both workers in turn
-unfoldable pub inTurn : ℕ → List ℕ
-inTurn zero = []
-inTurn (suc n) = 0 ∷ 1 ∷ inTurn n
-
 -- ---- the table
 
 abbrev pub smallFlow : List Task → Flow
@@ -62,9 +56,9 @@ endsWell tasks schedule =
 unfoldable pub errors : List Case
 errors =
     -- the last write posted before the shared reads are 0: worker 1 ends its read between the two, the read is lost, and the last task waits for ever
-    endsWell (sets 0 7 ∷ copies 1 ∷ sets 0 9 ∷ []) (replicate 4 0 ++ (replicate 9 1 ++ inTurn 20))
+    endsWell (sets 0 7 ∷ copies 1 ∷ sets 0 9 ∷ []) (replicate 4 0 ++ (replicate 9 1 ++ turns 2 40))
     -- read and write taken as a read: cell 0 is doubled before it is set
-    ∷ endsWell (resets 0 7 ∷ doubles 1 ∷ []) (replicate 6 1 ++ inTurn 12)
+    ∷ endsWell (resets 0 7 ∷ doubles 1 ∷ []) (replicate 6 1 ++ turns 2 24)
     -- a writer that waits for the last write only: cell 0 is set before it is copied, and the copy waits for ever
-    ∷ endsWell (copies 0 ∷ sets 1 7 ∷ []) (replicate 6 1 ++ inTurn 16)
+    ∷ endsWell (copies 0 ∷ sets 1 7 ∷ []) (replicate 6 1 ++ turns 2 32)
     ∷ []

@@ -5,6 +5,7 @@ pub mod Plain
 pub mod Machine
 pub mod Step
 pub mod Run
+pub mod Turns
 pub mod History
 pub mod Held
 pub mod Answers
@@ -15,3 +16,5 @@ pub mod Done
 pub mod Written
 pub mod Demand
 pub mod Auditor
+pub mod Waiting
+pub mod Longest

@@ -6,7 +6,7 @@ use native.Mathlib.Numerals.{add-one}
 use borrow.Author.Needs.{needs}
 use lib.ListN.{length, drop}
 use Rattle.layout.specs.Lists.{each}
-use Rattle.measure.specs.Turns.{nextTurn, turn}
+use Rattle.steps.specs.Turns.{nextTurn, turn}
 use Rattle.measure.proofs.Filled.{filled-more, filled-all}
 use Rattle.measure.proofs.turns.in_turn.Statement.{statement}
 use Rattle.measure.proofs.turns.in_turn.Tie as tie
