@@ -6,5 +6,6 @@ pub mod OneByOne
 pub mod Outcomes
 pub mod Finished
 pub mod Unique
+pub mod Waiting
 pub mod Walking
 pub mod Written

@@ -2,4 +2,5 @@
 pub mod Demand
 pub mod Held
 pub mod Promises
+pub mod Waiting
 pub mod Written
