@@ -4,22 +4,20 @@ mod say;
 use flow::Flow;
 use libc::STDIN_FILENO;
 use measure::Measured;
+ghost use mathlib.Core.Path.{_≡_};
 ghost use Prim.Native.Nat.{_*_, _≤_};
 ghost use lib.ListN.{length};
 ghost use Rattle.layout.specs.Flow.{mostWorkers, mostCells};
 ghost use Rattle.steps.specs.Run.{largestTotal};
+ghost use Rattle.measure.specs.Promises.{MeasurePromise};
 
 // Runs a flow of these sizes, and writes why its workers were held.
 fn run_and_tell(file: &[u8], sizes: Measured, cells: &mut [u32], room: &mut [u8])
-    requires { ⌜ (sizes .workers ≤ mostWorkers) × (sizes .total ≤ largestTotal) × (sizes .cells ≤ mostCells) ⌝ }
+    requires { ⌜ MeasurePromise (now file) sizes × (sizes .number ≡ 0) ⌝ }
     requires { ⌜ (mostCells ≤ length (now cells)) × (mostWorkers * largestTotal ≤ length (now room)) ⌝ }
 {
     let count = octets::offset(sizes.cells);
     let told = in_turn::run(file, sizes.workers, sizes.total, &mut cells[..count], room);
-    if told.number != 0 {
-        say::refused(told.number, told.place);
-        return;
-    }
     say::counts(told.past_last, told.write_differs, told.reads_differ);
     say::workers(sizes.workers, told);
 }

@@ -4,22 +4,20 @@ mod say;
 use flow::Flow;
 use libc::STDIN_FILENO;
 use measure::Measured;
+ghost use mathlib.Core.Path.{_≡_};
 ghost use Prim.Native.Nat.{_*_, _≤_};
 ghost use lib.ListN.{length};
 ghost use Rattle.layout.specs.Flow.{mostWorkers, mostCells};
 ghost use Rattle.steps.specs.Run.{largestTotal};
+ghost use Rattle.measure.specs.Promises.{MeasurePromise};
 
-// Runs a flow of these sizes with the workers in turn, and writes what came of it.
+// Runs a flow of these sizes with the workers in turn, and writes what came of it. It has finished, whatever the flow.
 fn run_and_tell(file: &[u8], sizes: Measured, cells: &mut [u32], room: &mut [u8])
-    requires { ⌜ (sizes .workers ≤ mostWorkers) × (sizes .total ≤ largestTotal) × (sizes .cells ≤ mostCells) ⌝ }
+    requires { ⌜ MeasurePromise (now file) sizes × (sizes .number ≡ 0) ⌝ }
     requires { ⌜ (mostCells ≤ length (now cells)) × (mostWorkers * largestTotal ≤ length (now room)) ⌝ }
 {
     let count = octets::offset(sizes.cells);
     let told = in_turn::run(file, sizes.workers, sizes.total, &mut cells[..count], room);
-    if told.number != 0 {
-        say::refused(told.number, told.place);
-        return;
-    }
     say::sizes(sizes.tasks, sizes.workers, sizes.cells);
     say::told(told.finished, told.advanced, told.held, told.done);
     say::cells(&cells[..count]);

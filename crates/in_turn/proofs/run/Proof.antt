@@ -1,71 +1,71 @@
--- `in_turn::run` meets its contract: there is room for the longest schedule, and the run is made under the one that names the workers in turn.
-use mathlib.Core.Path.{sym, ap, subst, _∙_}
+-- `in_turn::run` meets its contract: the run is made under the schedule that names all workers in turn, the total times over, and so it has finished.
+use mathlib.Core.Path.{sym, ap₂, subst, _∙_}
 use mathlib.Core.List.{List}
 use Prim.Native.Nat.{ℕ, _*_, _≤_}
-use native.Mathlib.Nat.{mul-le-mul-right}
 use native.Mathlib.Omega.{arith}
 use lib.ListN.{length}
 use lib.Seq.{length-take-le}
 use borrow.Author.Needs.{needs}
 use Rattle.layout.specs.Flow.{mostWorkers}
+use Rattle.layout.specs.File.{flowOf}
 use Rattle.steps.specs.Run.{largestTotal}
+use Rattle.steps.specs.Turns.{turns, inTurn}
+use Rattle.steps.proofs.Largest.{workers-fit, total-fits, steps-fit}
 use Rattle.run.specs.Promises.{RunPromise}
-use Rattle.measure.specs.Turns.{turns}
+use Rattle.run.proofs.Waiting.{run-waiting}
 use Rattle.in_turn.proofs.run.Statement.{statement}
 use Rattle.in_turn.proofs.run.Tie as tie
 
--- no schedule is longer than the most workers times the largest total
-steps-fit : (workers total : ℕ) → workers ≤ mostWorkers → total ≤ largestTotal → workers * total ≤ mostWorkers * largestTotal
-steps-fit workers total h l = omega (arith, mul-le-mul-right total h)
+-- where the function starts, as seen before the workers are named; and the naming, as seen before the run
+abbrev from : tie.After-name-workers-arg → tie.Start
+from c = c .before .before .before .before
 
--- where the function starts, as seen once the sizes are known
-abbrev from-known : tie.After-slice-known2 → tie.Start
-from-known c = c .before .before .before
+abbrev named : tie.After-run-arg → tie.After-name-workers
+named c = c .before .before .before
 
-abbrev known : tie.After-offset → tie.After-slice-known2
-known c = c .before
-
-fits : (c : tie.After-slice-known2)
-    → from-known c .args .workers * from-known c .args .total ≤ mostWorkers * largestTotal
-fits c = let start = from-known c in steps-fit (start .args .workers) (start .args .total) (start .pre .0) (start .pre .1)
-
-mul-offset : tie.Need-mul-offset
-mul-offset c = omega (arith, fits c)
+name-workers-requires : tie.Need-name-workers-requires
+name-workers-requires c κs =
+    let measured = from c .pre .0 in (
+      omega (arith, measured .workers-are, workers-fit _ (measured .accepted)),
+      omega (arith, measured .total-is, total-fits _ (measured .accepted)),
+      from c .pre .1,
+    )
 
 -- the room has as many bytes as there are steps to make
-steps-there : (c : tie.After-offset) → c .offset .result ≤ length (from-known (known c) .args .room .now)
-steps-there c = omega (arith, fits (known c), c .offset .ensures, from-known (known c) .pre .2)
+steps-there : (c : tie.After-name-workers) → c .name-workers .result ≤ length (c .name-workers .last .1 .1 .0)
+steps-there c =
+    let start = from (c .before) in
+    let measured = start .pre .0 in
+    let steps : start .args .workers * start .args .total ≤ mostWorkers * largestTotal =
+    subst (λ (n : ℕ). n ≤ mostWorkers * largestTotal) (sym (ap₂ _*_ (measured .workers-are) (measured .total-is))) (steps-fit _ (measured .accepted)) in
+    omega (arith, c .name-workers .ensures .0, c .name-workers .kept .1 .1 .0, start .pre .1)
 
-slice-relend-prefix-schedule : tie.Need-slice-relend-prefix-schedule
-slice-relend-prefix-schedule c = steps-there c
+slice-reshare-prefix-run : tie.Need-slice-reshare-prefix-run
+slice-reshare-prefix-run c = steps-there (named c)
 
-slice-aggregate-schedule : tie.Need-slice-aggregate-schedule
-slice-aggregate-schedule c = sym (length-take-le _ (from-known (known (c .before)) .args .room .now) (steps-there (c .before)))
-
--- the run, as seen from the end; and where the workers are named, as seen from the run
-abbrev ran : tie.After-slice-known5 → tie.After-run
-ran c = c .before .before .before .before
-
-abbrev named : tie.After-run → tie.After-in-turn
-named c = c .before .before .before .before .before
-
-abbrev counted : tie.After-in-turn → tie.After-offset
-counted c = c .before .before .before
+slice-aggregate-run : tie.Need-slice-aggregate-run
+slice-aggregate-run c = sym (length-take-le _ _ (steps-there (named (c .before))))
 
 returns : tie.Need-returns
 returns c =
-    let run = ran c in
-    let turn = named run in
-    let at = counted turn in
-    let a = from-known (known at) .args in
-    let whole = length-take-le (at .offset .result) (a .room .now) (steps-there at) ∙ at .offset .ensures in
+    let run = c .before .before in
+    let turn = named (run .before .before) in
+    let start = from (turn .before) in
+    let a = start .args in
+    let measured = start .pre .0 in
+    let promised : RunPromise (a .file .now) (a .cells .now) (inTurn (flowOf (a .file .now))) (run .run .result) (run .run .last .1 .0) =
     subst (λ (schedule : List ℕ). RunPromise (a .file .now) (a .cells .now) schedule (run .run .result) (run .run .last .1 .0))
-    (turn .in-turn .ensures ∙ ap (turns (a .workers)) whole)
-    (run .run .ensures)
+    (turn .name-workers .ensures .1
+    ∙ ap₂ (λ (workers total : ℕ). turns workers (workers * total)) (measured .workers-are) (measured .total-is))
+    (run .run .ensures) in
+    record {
+      run = promised;
+      all-made = run-waiting (a .file .now) (a .cells .now) (measured .accepted) (measured .start) .in-turn (run .run .result) (run .run .last .1 .0) promised;
+    }
 
 pub run-spec : {M : Type 1} → statement M
 run-spec =
     tie.close
     (tie.spec
-    mul-offset (λ c κs. search needs) slice-relend-prefix-schedule slice-aggregate-schedule (λ c. search needs)
-    (λ c κs. search needs) (λ c κs. search needs) (λ c. search needs) (λ c. search needs) returns)
+    name-workers-requires slice-reshare-prefix-run slice-aggregate-run (λ c κs. search needs) (λ c. search needs)
+    (λ c. search needs) returns)

@@ -1,0 +1,2 @@
+-- Laws that the proofs of the programs cite.
+pub mod Measured

@@ -1,0 +1,2 @@
+-- What the run of a flow with the workers in turn promises.
+pub mod Promises
