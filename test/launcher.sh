@@ -102,13 +102,14 @@ plant() {
     cp "$top/sflw" "$tree/"
     cp "$top/include/sflw.h" "$tree/include/"
     printf '# a tree: for the launcher\nlow:\nother: low\nsflw: low\n' >"$tree/crates.txt"
-    for name in sflw_run sflw_held "${worked[@]}"; do
+    for name in sflw_run sflw_held sflw_longest "${worked[@]}"; do
         echo "$name : low io # a program" >>"$tree/crates.txt"
         mkdir -p "$tree/crates/$name/src"
         program >"$tree/crates/$name/src/main.rt"
         echo "ran " >"$tree/crates/$name/stdout"
     done
     sed -i 's/"ran /"held /' "$tree/crates/sflw_held/src/main.rt"
+    sed -i 's/"ran /"longest /' "$tree/crates/sflw_longest/src/main.rt"
     for name in low other sflw; do
         mkdir -p "$tree/crates/$name/src" "$tree/crates/$name/must-fail"
         echo 1 | tee "$tree/crates/$name/src/lib.rt" >"$tree/crates/$name/src/more.rt"
@@ -139,6 +140,9 @@ statuses() {
     try 0 "$tree/sflw" held <<<first && wrote 'held first\n' && asked 1 && said 1 "proving sflw_held"
     try 1 "$tree/sflw" held <<<refuse && wrote 'refused 4 place 0\n' && asked 0 && said 0
     try 2 "$tree/sflw" held fast && wrote && said 1 "standard input"
+    try 0 "$tree/sflw" longest <<<first && wrote 'longest first\n' && asked 1 && said 1 "proving sflw_longest"
+    try 1 "$tree/sflw" longest <<<refuse && wrote 'refused 4 place 0\n' && asked 0 && said 0
+    try 2 "$tree/sflw" longest fast && wrote && said 1 "standard input"
     try 0 "$tree/sflw" lib && wrote "libsflw.a and sflw.h are in $tree/target/staticlib\n" && asked 1 && said 1 "proving the library"
     try 0 "$tree/sflw" lib && wrote "libsflw.a and sflw.h are in $tree/target/staticlib\n" && asked 0 && said 0
     try 0 "$tree/sflw" cases && wrote "$(printf 'ran \\n%.0s' "${worked[@]}")" && asked 1 && said 1 "proving ${worked[0]}, "
@@ -226,7 +230,7 @@ refuses() {
     grep -qx 'refused [0-9]* place [0-9]*' "$room/out" || wrong "a damaged flow is not refused in one line"
 }
 
-# A flow is run, at once where nothing is to be proved, and its held steps are told; a damaged one is refused; a touched source is looked at.
+# A flow is run, at once where nothing is to be proved, its held steps and its worst case are told; a damaged one is refused; a touched source is looked at.
 here() {
     local flow="$top/examples/flow-a.sflw" lines began
     lines="$(stored sflw_run)"
@@ -240,6 +244,8 @@ here() {
     refuses run
     try 0 "$top/sflw" held <"$top/crates/sflw_held/stdin" && wrote "$(stored sflw_held)"
     refuses held
+    try 0 "$top/sflw" longest <"$top/crates/sflw_longest/stdin" && wrote "$(stored sflw_longest)"
+    refuses longest
     touch "$top/crates/sflw_run/src/main.rt" "$room/before"
     try 0 "$top/sflw" run <"$flow" && wrote "$lines"
     [ "$top/target/proved/sflw_run" -nt "$room/before" ] || wrong "a touched source is not looked at"

@@ -1,0 +1,2 @@
+-- How long a run of a flow can take.
+pub mod Promises
