@@ -1,4 +1,5 @@
 #include "cases.h"
+#include "stretches.h"
 
 #include <string.h>
 
@@ -634,7 +635,7 @@ static void random_schedule(struct random *random, struct test_case *made, uint3
         made->schedule[i] = (uint8_t)below(random, workers);
 }
 
-static void some_names(struct random *random, struct test_case *made, uint32_t workers)
+void some_names(struct random *random, struct test_case *made, uint32_t workers)
 {
     switch (below(random, 8)) {
     case 0:
@@ -701,6 +702,36 @@ static void some_schedule(struct random *random, struct test_case *made,
     }
 }
 
+/* Every task is the same worker's, which then has the longest way to go. */
+static void one_owner(struct random *random, struct sample *flow)
+{
+    uint32_t owner = below(random, flow->workers);
+    for (uint32_t i = 0; i < flow->tasks; i++)
+        flow->rows[i * ROW_BYTES] = (uint8_t)owner;
+}
+
+/* An accepted run under stretches; small ones are of the first few tasks. */
+static void some_stretches(struct random *random, struct test_case *made, struct sample *flow,
+                           enum sizes sizes)
+{
+    static const char *const kinds[STRETCH_KINDS] = {
+        [OWN_STRETCHES] = "own stretches",
+        [TOTAL_STRETCHES] = "total stretches",
+        [FEWER_STRETCHES] = "fewer stretches than own",
+        [AGAIN_STRETCHES] = "total stretches, some workers more than once"};
+    enum stretch_kind kind = between(random, OWN_STRETCHES, AGAIN_STRETCHES);
+
+    if (sizes == MOSTLY_SMALL && flow->tasks > 4)
+        flow->tasks = 4;
+    if (chance(random, 250))
+        one_owner(random, flow);
+    made->kind = kinds[kind];
+    made->input_len = make_file(flow, made->input);
+    made->output_len = 4 * (size_t)flow->cells;
+    fill(random, made->output, made->output_len);
+    put_stretches(random, made, flow, kind);
+}
+
 /* ---- a case ------------------------------------------------------------ */
 
 static uint32_t some_call(struct random *random)
@@ -727,12 +758,17 @@ void make_case(uint64_t seed, uint64_t number, enum sizes sizes, struct test_cas
     made->input_len = 0;
     made->output_len = 0;
     made->schedule_len = 0;
+    made->stretches.kind = NO_STRETCHES;
     made->workers = 0;
     made->cells = 0;
     some_flow(&random, sizes, &flow);
 
     if (made->call == CALL_WRITE) {
         some_write(&random, made, &flow);
+        return;
+    }
+    if (made->call == CALL_RUN && chance(&random, 125)) {
+        some_stretches(&random, made, &flow, sizes);
         return;
     }
     some_file(&random, made, &flow);

@@ -13,6 +13,26 @@ enum { ROOM_INPUT = 16384, ROOM_OUTPUT = 16384, ROOM_SCHEDULE = 70000 };
 
 enum { MOST_SCHEDULE = 65536 };
 
+/* How a run's schedule is made of stretches, in each of which every worker is
+   named (02, Q-10). With own and total as in flows.h: */
+enum stretch_kind {
+    NO_STRETCHES,
+    OWN_STRETCHES,   /* own stretches, each worker once in each */
+    TOTAL_STRETCHES, /* total stretches, each worker once in each */
+    FEWER_STRETCHES, /* fewer than own, once in each; the last may be cut off */
+    AGAIN_STRETCHES, /* total stretches, some workers more than once in each */
+    STRETCH_KINDS
+};
+
+struct stretches {
+    enum stretch_kind kind;
+    uint32_t whole; /* how many, one that is cut off not counted */
+    uint32_t tasks; /* the flow's */
+    uint32_t workers;
+    uint32_t own;
+    uint32_t total;
+};
+
 struct test_case {
     uint32_t call;
     const char *kind; /* how it was made, for a message */
@@ -27,6 +47,7 @@ struct test_case {
 
     uint8_t schedule[ROOM_SCHEDULE];
     size_t schedule_len;
+    struct stretches stretches; /* from which a run's counts are known, or their bounds */
 
     /* the answer, where it is known from how the case was made */
     bool known;
@@ -39,6 +60,9 @@ struct test_case {
 enum sizes { ALL_SIZES, MOSTLY_SMALL };
 
 void make_case(uint64_t seed, uint64_t number, enum sizes sizes, struct test_case *made);
+
+/* Names workers up to the schedule's length, in one of several ways. */
+void some_names(struct random *random, struct test_case *made, uint32_t workers);
 
 const char *call_name(uint32_t call);
 

@@ -10,12 +10,14 @@
  * Else it shows what was met: how often each number; for each reason of a held
  * step, in how many runs that were not refused a step was held for it (for 0,
  * in how many none was held), and how many workers of theirs have it as their
- * latest.
+ * latest; and how many runs were under stretches, in each of which every worker
+ * is named, and how many of those had to finish.
  */
 #define _DEFAULT_SOURCE
 
 #include "lent.h"
 #include "named_cases.h"
+#include "stretches.h"
 #include "words.h"
 
 #include <inttypes.h>
@@ -49,6 +51,7 @@ struct tally {
     uint64_t steps;
     uint64_t runs[REASONS];   /* with a step held for it; 0: with none held */
     uint64_t latest[REASONS]; /* of a worker that the flow has */
+    uint64_t stretches[STRETCH_KINDS];
 };
 
 static struct tally tally;
@@ -64,6 +67,7 @@ static void count_run(const sflw_run_answer *run)
     tally.runs[SFLW_READS_DIFFER] += run->reads_differ > 0;
     for (uint32_t i = 0; i < current.input[12]; i++)
         tally.latest[run->latest[i].reason]++;
+    tally.stretches[current.stretches.kind]++;
 }
 
 static void count_case(void)
@@ -84,6 +88,15 @@ static uint64_t met_in_all(uint32_t number)
     return sum;
 }
 
+/* Those of fewer stretches are the ones that need not finish. */
+static void print_stretches(void)
+{
+    uint64_t finish = tally.stretches[OWN_STRETCHES] + tally.stretches[TOTAL_STRETCHES] +
+                      tally.stretches[AGAIN_STRETCHES];
+    printf("%" PRIu64 " runs under stretches, %" PRIu64 " of them long enough to finish\n",
+           finish + tally.stretches[FEWER_STRETCHES], finish);
+}
+
 static void print_tally(void)
 {
     printf("%6s", "number");
@@ -100,6 +113,7 @@ static void print_tally(void)
     for (uint32_t reason = 0; reason < REASONS; reason++)
         printf("%6" PRIu32 " %8" PRIu64 " %8" PRIu64 "\n", reason, tally.runs[reason],
                tally.latest[reason]);
+    print_stretches();
 }
 
 static bool enough_of(const char *what, uint32_t which, uint64_t met, uint64_t wanted)
@@ -110,7 +124,8 @@ static bool enough_of(const char *what, uint32_t which, uint64_t met, uint64_t w
 }
 
 /* Every number at least 20 times in 100,000 cases. Every reason at least once
-   in a hundred runs that are not refused, and as often as a latest one. */
+   in a hundred runs that are not refused, and as often as a latest one; so too
+   every kind of stretches. */
 static bool enough_met(uint64_t cases)
 {
     uint64_t runs = tally.met[CALL_RUN][0];
@@ -122,6 +137,8 @@ static bool enough_met(uint64_t cases)
         enough &= enough_of("reason", reason, tally.runs[reason], runs / 100);
         enough &= enough_of("latest reason", reason, tally.latest[reason], runs / 100);
     }
+    for (uint32_t kind = NO_STRETCHES; kind < STRETCH_KINDS; kind++)
+        enough &= enough_of("kind of stretches", kind, tally.stretches[kind], runs / 100);
     return enough;
 }
 
@@ -154,6 +171,10 @@ static void print_case(const char *what)
     if (current.known)
         printf("made so that: number %" PRIu32 " place %" PRIu32 "\n", current.number,
                current.place);
+    if (current.call == CALL_RUN && current.stretches.kind != NO_STRETCHES)
+        printf("%" PRIu32 " whole stretches; tasks %" PRIu32 " workers %" PRIu32 " own %" PRIu32
+               " total %" PRIu32 "\n", current.stretches.whole, current.stretches.tasks,
+               current.stretches.workers, current.stretches.own, current.stretches.total);
     print_answer(&library, &library_memory);
     print_answer(&reference, &reference_memory);
 }
@@ -279,15 +300,28 @@ static bool case_passes(void)
     return true;
 }
 
-/* The named cases, in each of the three ways to lend. */
+/* In each of the three ways to lend. */
+static bool named_case_passes(void)
+{
+    bool pass = true;
+    for (case_number = 0; case_number < 4 && pass; case_number++)
+        pass = case_passes();
+    return pass;
+}
+
+/* The named cases, and the flows that take longest. */
 static bool named_cases_pass(void)
 {
     bool pass = true;
     named = true;
     for (uint32_t i = 0; i < named_case_count && pass; i++) {
         make_named_case(&named_cases[i], &current);
-        for (case_number = 0; case_number < 4 && pass; case_number++)
-            pass = case_passes();
+        pass = named_case_passes();
+    }
+    for (uint32_t i = 0; i < LONGEST_CASES && pass; i++) {
+        struct longest longest = longest_at(i);
+        make_longest_case(&longest, &current);
+        pass = named_case_passes();
     }
     named = false;
     return pass;

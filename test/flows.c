@@ -176,17 +176,21 @@ void make_full_flow(struct random *random, struct sample *flow,
     }
 }
 
-uint32_t total_of(const struct sample *flow)
+uint32_t own_of(const struct sample *flow)
 {
-    uint32_t total = 0;
+    uint32_t own = 0;
     for (uint32_t i = 0; i < flow->tasks; i++) {
         const uint8_t *row = flow->rows + i * ROW_BYTES;
         for (uint32_t j = 0; j < row[1]; j++)
-            total += row[5 + 2 * j] == 1 ? 2 : 4;
-        total += row[2];
-        total += flow->workers - 1;
+            own += row[5 + 2 * j] == 1 ? 2 : 4;
+        own += row[2];
     }
-    return total;
+    return own;
+}
+
+uint32_t total_of(const struct sample *flow)
+{
+    return own_of(flow) + flow->tasks * (flow->workers - 1);
 }
 
 /* ---- files ------------------------------------------------------------- */

@@ -45,7 +45,12 @@ void make_flow(struct random *random, struct sample *flow,
 void make_full_flow(struct random *random, struct sample *flow,
                     uint32_t tasks, uint32_t workers, uint32_t cells);
 
-/* The flow's total, as 01 has it. */
+/* The steps that owners make of their tasks: 2 for each read, 4 for each write
+   and 1 for each operation. */
+uint32_t own_of(const struct sample *flow);
+
+/* The flow's total, as 01 has it: those, and for each task one step of each
+   other worker. */
 uint32_t total_of(const struct sample *flow);
 
 uint32_t blocks_of(uint32_t tasks);

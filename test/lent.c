@@ -1,6 +1,7 @@
 #define _DEFAULT_SOURCE
 
 #include "lent.h"
+#include "stretches.h"
 
 #include <stdio.h>
 #include <stdlib.h>
@@ -192,7 +193,9 @@ static const char *run_misdeed(const struct memory *memory, const struct test_ca
             return "answered a latest held step that can be none of this run";
         some |= latest.reason != SFLW_NEVER_HELD;
     }
-    return some == (run.held > 0) ? NULL : "answered held steps that no worker had";
+    if (some != (run.held > 0))
+        return "answered held steps that no worker had";
+    return stretches_misdeed(given, &run);
 }
 
 const char *misdeed(const struct memory *memory, const struct test_case *given)

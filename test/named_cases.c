@@ -411,6 +411,13 @@ static void write_after_read(struct test_case *made)
     put_tasks(made, 2, 1, heads, 2);
 }
 
+/* Worker 1 reads what worker 0 reads before it. */
+static void read_after_read(struct test_case *made)
+{
+    static const uint8_t heads[][HEAD_BYTES] = {{0, 1, 0, 0, 0, 1}, {1, 1, 0, 0, 0, 1}};
+    put_tasks(made, 2, 1, heads, 2);
+}
+
 /* Worker 0 writes cell 2, and then reads cell 1. Worker 1 reads cell 2 and
    writes cell 1, in this order. */
 static void two_waits(struct test_case *made)
@@ -534,6 +541,8 @@ const struct named_case named_cases[] = {
      START_A, {0, 0, 22, 1, 3, 1, 0, 1, 0, NONE, WRITE(0)}, {4660, 13330, 13335}},
     {"the reads of cell 0 differ", CALL_RUN, write_after_read, "111", {7},
      {0, 0, 2, 1, 0, 0, 0, 0, 1, NONE, READS(0)}, {7}},
+    {"a read waits for no read", CALL_RUN, read_after_read, "111", {7},
+     {0, 0, 3, 0, 1, 0}, {7}},
     {"held on cell 2", CALL_RUN, two_waits, "111", START_A,
      {0, 0, 2, 1, 0, 0, 0, 1, 0, NONE, WRITE(2)}, START_A},
     {"held on cell 2, then on cell 1", CALL_RUN, two_waits, "1110000111", START_A,
@@ -661,6 +670,7 @@ void make_named_case(const struct named_case *from, struct test_case *made)
     made->place = from->answer[1];
     made->output_len = 0;
     made->schedule_len = 0;
+    made->stretches.kind = NO_STRETCHES;
     memset(made->output, 0, ROOM_OUTPUT);
     memcpy(made->output, from->start, sizeof from->start);
     from->make(made);

@@ -1,10 +1,13 @@
 /*
- * The named cases, and flow A written and read, on the reference and, where it
- * is linked, on the library; the sums of the check on the reference. A line for
- * each that goes wrong, then a count.
+ * The named cases, the flows that take longest, flow A written and read, and how
+ * long a worker is kept waiting, on the reference and, where it is linked, on
+ * the library; the sums of the check on the reference. A line for each that goes
+ * wrong, then a count.
  */
-#include "named_cases.h"
 #include "lent.h"
+#include "named_cases.h"
+#include "stretches.h"
+#include "waiting.h"
 
 #include <inttypes.h>
 #include <stdio.h>
@@ -13,6 +16,7 @@
 static struct memory memory;
 static struct test_case made;
 static uint32_t failed;
+static uint32_t wrong_waits;
 
 static void expect(bool right, const char *calls, const char *what)
 {
@@ -22,11 +26,18 @@ static void expect(bool right, const char *calls, const char *what)
     failed++;
 }
 
-static bool as_written(const struct named_case *from)
+static bool answers(const uint32_t *words)
 {
     for (uint32_t i = 0; i < answer_words(made.call); i++)
-        if (answer_at(&memory, i) != from->answer[i])
+        if (answer_at(&memory, i) != words[i])
             return false;
+    return true;
+}
+
+static bool as_written(const struct named_case *from)
+{
+    if (!answers(from->answer))
+        return false;
     if (made.call == CALL_PLAIN || made.call == CALL_RUN) {
         size_t length = made.output_len < 12 ? made.output_len : 12;
         return memcmp(memory.output.at, from->cells, length) == 0;
@@ -41,6 +52,21 @@ static void try_named_cases(const struct calls *calls)
         call_case(calls, &made, IN_THE_MIDDLE, 0, &memory);
         expect(as_written(&named_cases[i]) && misdeed(&memory, &made) == NULL, calls->name,
                made.kind);
+    }
+}
+
+static void try_longest_cases(const struct calls *calls)
+{
+    for (uint32_t i = 0; i < LONGEST_CASES; i++) {
+        struct longest longest = longest_at(i);
+        uint32_t words[MOST_ANSWER_WORDS];
+        uint32_t cells[LONGEST_CELLS];
+
+        make_longest_case(&longest, &made);
+        longest_answer(&longest, words, cells);
+        call_case(calls, &made, IN_THE_MIDDLE, 0, &memory);
+        expect(answers(words) && memcmp(memory.output.at, cells, sizeof cells) == 0 &&
+               misdeed(&memory, &made) == NULL, calls->name, made.kind);
     }
 }
 
@@ -76,21 +102,27 @@ static void try_fletcher(void)
     expect(ref_fletcher(letters, 8) == 0x0627, "reference", "abcdefgh");
 }
 
+static void try_all(const struct calls *calls)
+{
+    try_named_cases(calls);
+    try_longest_cases(calls);
+    try_flow_a(calls);
+    wrong_waits += try_waiting(calls, &made, &memory);
+}
+
 int main(void)
 {
     static const struct calls reference = REFERENCE_CALLS;
     const char *tried = "the reference";
 
     open_memory(&memory);
-    try_named_cases(&reference);
-    try_flow_a(&reference);
+    try_all(&reference);
     try_fletcher();
 #ifdef WITH_LIBRARY
     static const struct calls library = LIBRARY_CALLS;
-    try_named_cases(&library);
-    try_flow_a(&library);
+    try_all(&library);
     tried = "the reference and the library";
 #endif
     printf("the named cases on %s: %" PRIu32 " wrong\n", tried, failed);
-    return failed == 0 ? 0 : 1;
+    return failed + wrong_waits == 0 ? 0 : 1;
 }

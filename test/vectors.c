@@ -4,7 +4,8 @@
  *     vectors [CASES [SEED]] > FILE
  *
  * First the named cases, then some with the largest flow, then some with a
- * schedule that is too long, then CASES made from the seed, most of them
+ * schedule that is too long, then some of the flows that take longest and some
+ * of small flows under stretches, then CASES made from the seed, most of them
  * small. The gate runs what it writes without words; that is stored by
  *
  *     test/build.sh && test/run.sh vectors > crates/vectors/stdin
@@ -33,6 +34,7 @@
 #include "calls.h"
 #include "lent.h"
 #include "named_cases.h"
+#include "stretches.h"
 #include "words.h"
 
 #include <inttypes.h>
@@ -40,7 +42,7 @@
 #include <stdlib.h>
 #include <string.h>
 
-enum { NUMBERS = 18, REASONS = 4, LARGEST = 3, TOO_LONG = 24 };
+enum { NUMBERS = 18, REASONS = 4, LARGEST = 3, TOO_LONG = 24, LONGEST = 27, STRETCHES = 16 };
 
 static const struct calls reference = REFERENCE_CALLS;
 static struct memory memory;
@@ -158,6 +160,7 @@ static void put_plain_largest(const uint8_t *file, size_t length)
     current.known = true;
     current.number = 0;
     current.place = 0;
+    current.stretches.kind = NO_STRETCHES;
     memcpy(current.input, file, length);
     current.input_len = length;
     current.output_len = 4 * MOST_CELLS;
@@ -219,6 +222,36 @@ static void put_too_long(uint64_t seed)
     }
 }
 
+/* ---- stretches --------------------------------------------------------- */
+
+/* Those of one task, and those of 200 tasks and 8 workers. */
+static void put_longest(void)
+{
+    for (uint32_t i = 0; i < LONGEST_CASES; i++) {
+        struct longest longest = longest_at(i);
+        if (longest.tasks > 1 && (longest.tasks < MOST_TASKS || longest.workers < MOST_WORKERS))
+            continue;
+        make_longest_case(&longest, &current);
+        put_case();
+    }
+}
+
+/* As many of each kind. */
+static void put_under_stretches(uint64_t seed)
+{
+    uint32_t made[STRETCH_KINDS] = {0};
+    uint32_t left = STRETCHES;
+    for (uint64_t i = 0; left > 0; i++) {
+        make_case(seed + 2, i, MOSTLY_SMALL, &current);
+        enum stretch_kind kind = current.stretches.kind;
+        if (kind == NO_STRETCHES || made[kind] == STRETCHES / (STRETCH_KINDS - 1))
+            continue;
+        put_case();
+        made[kind]++;
+        left--;
+    }
+}
+
 /* ---- the program ------------------------------------------------------- */
 
 static void report(uint64_t cases)
@@ -234,7 +267,7 @@ static void report(uint64_t cases)
 
 int main(int count, char **arguments)
 {
-    uint32_t others = named_case_count + LARGEST + TOO_LONG;
+    uint32_t others = named_case_count + LARGEST + TOO_LONG + LONGEST + STRETCHES;
     struct words words = words_of("vectors", count, arguments);
     uint64_t cases = next_number(&words, "CASES", 0, UINT32_MAX - others, 2900);
     uint64_t seed = next_number(&words, "SEED", 0, UINT64_MAX, 20220127);
@@ -249,6 +282,8 @@ int main(int count, char **arguments)
     }
     put_largest();
     put_too_long(seed);
+    put_longest();
+    put_under_stretches(seed);
     for (uint64_t i = 0; i < cases; i++) {
         make_case(seed, i, MOSTLY_SMALL, &current);
         put_case();
