@@ -129,6 +129,11 @@ uint32_t sflw_plain(const uint8_t *file, size_t file_len,
  * file's, then 12, then 13 if the schedule is over 65,536 bytes, then 14 at its
  * first byte that names no worker. On success it answers the counts, why steps
  * were held, and the latest held step of each worker.
+ *
+ * With every worker named at least once in each stretch of the schedule, the
+ * run has finished after at most total - tasks * (workers - 1) stretches, in
+ * the words of the check's answer. So naming workers 0, 1, .. in turn, the total
+ * times over, always finishes; that is 46,400 bytes at most.
  */
 uint32_t sflw_run(const uint8_t *file, size_t file_len,
                   uint32_t *cells, size_t cells_len,
