@@ -109,7 +109,7 @@ taken-more file cells schedule r s after s-after w promised taken room below mor
     (le-leb (length (schedule ++ w ∷ [])) mostSchedule (omega (arith, length-append schedule (w ∷ []))))
 
 -- one step more of a worker whose step advances
-advanced-more : (file cells schedule : List ℕ) (r s : RunAnswer) (after s-after : List ℕ) (w : ℕ) → RunPromise file cells schedule r after
+pub advanced-more : (file cells schedule : List ℕ) (r s : RunAnswer) (after s-after : List ℕ) (w : ℕ) → RunPromise file cells schedule r after
     → r .number ≡ 0
     → step (flowIn file) (run (flowIn file) cells schedule .machine) w .outcome ≡ advanced
     → RunPromise file cells (schedule ++ w ∷ []) s s-after
