@@ -9,7 +9,7 @@ ghost use Rattle.steps.specs.Turns.{turns};
 ghost use Rattle.in_turn.specs.Promises.{Measures, InTurnPromise};
 
 // What the programs name, at the front of the room, and how many bytes that is. There is room for the longest.
-pub fn name_workers(workers: u32, total: u32, room: &mut [u8]) -> usize
+fn name_workers(workers: u32, total: u32, room: &mut [u8]) -> usize
     requires { ⌜ (workers ≤ mostWorkers) × (total ≤ largestTotal) × (mostWorkers * largestTotal ≤ length (now room)) ⌝ }
     ensures { λ r. ⌜ (r ≡ workers * total) × (take r (now (room .exit)) ≡ turns workers (workers * total)) ⌝ }
 {
