@@ -57,24 +57,24 @@ small-index row cells stage index fits stands = go (eqb stage 2) refl
 
 -- ---- what is stored there
 
--- the cells and the counters after are what the rules change them to
-abbrev pub ChangedBy : ℕ → ℕ → Arrays → Try → Arrays → Type 0
-ChangedBy w number before try after =
-    Shape (after .shared) (after .private) × (machineOf [] after ≡ change effect number (machineOf [] before) w try)
+-- the cells and the counters after are what the rules change them to in a flow of a version
+abbrev pub ChangedBy : ℕ → ℕ → ℕ → Arrays → Try → Arrays → Type 0
+ChangedBy version w number before try after =
+    Shape (after .shared) (after .private) × (machineOf [] after ≡ change (effect version) number (machineOf [] before) w try)
 
-module _ (row : List ℕ) (w number index : ℕ) (kept : Arrays) (shape : Shape (kept .shared) (kept .private)) where
-  pub waited : (stage : ℕ) → stage < 2 → ChangedBy w number kept (tryAt row stage index) kept
+module _ (version : ℕ) (row : List ℕ) (w number index : ℕ) (kept : Arrays) (shape : Shape (kept .shared) (kept .private)) where
+  pub waited : (stage : ℕ) → stage < 2 → ChangedBy version w number kept (tryAt row stage index) kept
   unfolding tryAt change
   waited zero h = (shape, refl)
   waited (suc zero) h = (shape, refl)
   waited (suc (suc stage)) h = absurd (omega arith)
 
-  pub made : (stage : ℕ) (cells′ : List ℕ) → stage ≡ 2 → cells′ ≡ operated effect (operationAt row index) (kept .cells)
-      → ChangedBy w number kept (tryAt row stage index) (arrays cells′ (kept .shared) (kept .private) (kept .places))
+  pub made : (stage : ℕ) (cells′ : List ℕ) → stage ≡ 2 → cells′ ≡ operated (effect version) (operationAt row index) (kept .cells)
+      → ChangedBy version w number kept (tryAt row stage index) (arrays cells′ (kept .shared) (kept .private) (kept .places))
   unfolding tryAt change
   made stage cells′ e is =
       let m = machineOf [] kept in
-      (shape, ap (withCells m) is ∙ ap (λ (s : ℕ). change effect number m w (tryAt row s index)) (sym e))
+      (shape, ap (withCells m) is ∙ ap (λ (s : ℕ). change (effect version) number m w (tryAt row s index)) (sym e))
 
 -- a worker at an access, whose cell is read from the row
 pub record AtAccess (row : List ℕ) (w index cell : ℕ) (kept : Arrays) : Type 0 where
@@ -83,7 +83,7 @@ pub record AtAccess (row : List ℕ) (w index cell : ℕ) (kept : Arrays) : Type
   pub within : cell < mostCells
   pub here : cell ≡ accessAt row index .cell
 
-module _ {row : List ℕ} {w index cell : ℕ} {kept : Arrays} (number : ℕ) (at : AtAccess row w index cell kept) where
+module _ {row : List ℕ} {w index cell : ℕ} {kept : Arrays} (version number : ℕ) (at : AtAccess row w index cell kept) where
   abbrev m : Machine
   m = machineOf [] kept
 
@@ -113,9 +113,9 @@ module _ {row : List ℕ} {w index cell : ℕ} {kept : Arrays} (number : ℕ) (a
       )
 
   -- a try that is reached by an equation
-  tried : (stage : ℕ) (try : Try) (to : Machine) → try ≡ tryAt row stage index → to ≡ change effect number m w try
-      → to ≡ change effect number m w (tryAt row stage index)
-  tried stage try to e is = is ∙ ap (change effect number m w) e
+  tried : (stage : ℕ) (try : Try) (to : Machine) → try ≡ tryAt row stage index → to ≡ change (effect version) number m w try
+      → to ≡ change (effect version) number m w (tryAt row stage index)
+  tried stage try to e is = is ∙ ap (change (effect version) number m w) e
 
   -- the try of an access's first end
   first-end : (stage : ℕ) (isWrite : Bool) → stage ≡ 3 → writes (accessAt row index) ≡ isWrite
@@ -127,7 +127,7 @@ module _ {row : List ℕ} {w index cell : ℕ} {kept : Arrays} (number : ℕ) (a
       ∙ ap (λ (s : ℕ). tryAt row s index) (sym e)
 
   pub zeroed : (stage : ℕ) → stage ≡ 3 → writes (accessAt row index) ≡ true
-      → ChangedBy w number kept (tryAt row stage index)
+      → ChangedBy version w number kept (tryAt row stage index)
       (arrays (kept .cells) (set (kept .shared) cell (getD ours 0 0 ∷ 0 ∷ [])) (kept .private) (kept .places))
   unfolding change
   zeroed stage e t =
@@ -138,7 +138,7 @@ module _ {row : List ℕ} {w index cell : ℕ} {kept : Arrays} (number : ℕ) (a
 
   pub ended : (stage : ℕ) (private′ : List (List (List ℕ))) → stage ≡ 3 → writes (accessAt row index) ≡ false
       → private′ ≡ noted (kept .private) w cell false number
-      → ChangedBy w number kept (tryAt row stage index)
+      → ChangedBy version w number kept (tryAt row stage index)
       (arrays (kept .cells) (set (kept .shared) cell (getD ours 0 0 ∷ (getD ours 1 0 + 1) ∷ [])) private′ (kept .places))
   unfolding change
   ended stage private′ e t is =
@@ -146,7 +146,7 @@ module _ {row : List ℕ} {w index cell : ℕ} {kept : Arrays} (number : ℕ) (a
       (both .0, tried stage (endRead cell) _ (first-end stage false e t) (both .1))
 
   pub posted : (stage : ℕ) (private′ : List (List (List ℕ))) → stage ≡ 4 → private′ ≡ noted (kept .private) w cell true number
-      → ChangedBy w number kept (tryAt row stage index)
+      → ChangedBy version w number kept (tryAt row stage index)
       (arrays (kept .cells) (set (kept .shared) cell (number ∷ getD ours 1 0 ∷ [])) private′ (kept .places))
   unfolding tryAt change
   posted stage private′ e is =

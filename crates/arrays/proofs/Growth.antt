@@ -153,9 +153,9 @@ step-reads n s m w few r = go (drop (m .places w .passed) (s .tasks)) refl
         (subst (λ (t : Task). length (t .accesses) ≤ mostAccesses) here (few (passed + 0) task inside))
 
 -- a step over the tasks of a file
-pub file-step-reads : (n : ℕ) (file : List ℕ) (tasks cells : ℕ) (m : Machine) (w : ℕ) → Ready file tasks cells → ReadsAtMost n m
-    → ReadsAtMost (n + mostAccesses) (step (settingIn file tasks) m w .machine)
-file-step-reads n file tasks cells m w ready r = step-reads n (settingIn file tasks) m w few r
+pub file-step-reads : (n : ℕ) (file : List ℕ) (version tasks cells : ℕ) (m : Machine) (w : ℕ) → Ready file tasks cells → ReadsAtMost n m
+    → ReadsAtMost (n + mostAccesses) (step (settingIn file version tasks) m w .machine)
+file-step-reads n file version tasks cells m w ready r = step-reads n (settingIn file version tasks) m w few r
   where
     few : (i : ℕ) (none : Task) → i < length (tasksIn file tasks) → length (getD (tasksIn file tasks) i none .accesses) ≤ mostAccesses
     few i none h =

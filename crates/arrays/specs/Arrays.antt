@@ -204,9 +204,9 @@ pub record Steppable (file : List ℕ) (tasks : ℕ) (kept : Arrays) : Type 0 wh
 
 -- ---- what a step does to the arrays
 
--- the setting of a file's run
-abbrev pub settingIn : List ℕ → ℕ → Setting
-settingIn file tasks = settingFor (tasksIn file tasks)
+-- the setting of a file's run in a version
+abbrev pub settingIn : List ℕ → ℕ → ℕ → Setting
+settingIn file version tasks = settingFor version (tasksIn file tasks)
 
 -- a worker's stage and index, and the tasks that it has gone past
 abbrev pub passedAt : Arrays → ℕ → ℕ
@@ -218,11 +218,11 @@ stageAt kept w = getD (getD (kept .places) w []) 1 0
 abbrev pub indexAt : Arrays → ℕ → ℕ
 indexAt kept w = getD (getD (kept .places) w []) 2 0
 
--- what an own step of the task of this number changes but for the place: the counters keep their sizes, and the machine changes as the rules say
-abbrev pub Changed : List ℕ → ℕ → ℕ → ℕ → ℕ → Arrays → Arrays → Type 0
-Changed row w number stage index before after =
+-- what an own step of the task of this number changes in a flow of a version, but for the place: the counters keep their sizes, and the machine changes as the rules say
+abbrev pub Changed : ℕ → List ℕ → ℕ → ℕ → ℕ → ℕ → Arrays → Arrays → Type 0
+Changed version row w number stage index before after =
     Shape (after .shared) (after .private)
-    × (machineOf [] after ≡ change effect number (machineOf [] before) w (tryAt row stage index))
+    × (machineOf [] after ≡ change (effect version) number (machineOf [] before) w (tryAt row stage index))
 
 -- whether the worker moves on after a step with this outcome
 abbrev pub movesOn : Rules.Outcome → Bool
@@ -243,7 +243,7 @@ abbrev pub placesAfter : Rules.Outcome → List (List ℕ) → ℕ → List ℕ 
 placesAfter why places w next = cond (movesOn why) (set places w next) places
 
 -- the owner's next own step, made or held
-pub record OwnStep (row : List ℕ) (w : ℕ) (before : Arrays) (why : Rules.Outcome) (after : Arrays) : Type 0 where
+pub record OwnStep (version : ℕ) (row : List ℕ) (w : ℕ) (before : Arrays) (why : Rules.Outcome) (after : Arrays) : Type 0 where
   pub shape : Shape (after .shared) (after .private)
   pub cells-size : length (after .cells) ≡ length (before .cells)
   pub places-are : after .places
@@ -252,12 +252,12 @@ pub record OwnStep (row : List ℕ) (w : ℕ) (before : Arrays) (why : Rules.Out
       → stepped why (machineOf tasks after)
       ≡ attempted (outcome (machineOf tasks before) w (tryAt row (stageAt before w) (indexAt before w))) (machineOf tasks before)
       (withPlace
-      (change effect (passedAt before w + 1) (machineOf tasks before) w (tryAt row (stageAt before w) (indexAt before w)))
+      (change (effect version) (passedAt before w + 1) (machineOf tasks before) w (tryAt row (stageAt before w) (indexAt before w)))
       w
       (placeOf tasks (nextPlace row (passedAt before w) (stageAt before w) (indexAt before w))))
 
 -- a step of a named worker
-pub record StepDone (file : List ℕ) (tasks w : ℕ) (before : Arrays) (why : Rules.Outcome) (after : Arrays) : Type 0 where
+pub record StepDone (file : List ℕ) (version tasks w : ℕ) (before : Arrays) (why : Rules.Outcome) (after : Arrays) : Type 0 where
   pub sound : Steppable file tasks after
   pub places-are : after .places ≡ placesAfter why (before .places) w (goesTo file before w)
-  pub machine-is : stepped why (machineOf (tasksIn file tasks) after) ≡ step (settingIn file tasks) (machineOf (tasksIn file tasks) before) w
+  pub machine-is : stepped why (machineOf (tasksIn file tasks) after) ≡ step (settingIn file version tasks) (machineOf (tasksIn file tasks) before) w

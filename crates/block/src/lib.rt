@@ -3,12 +3,10 @@ ghost use mathlib.Core.Path.{_≡_};
 ghost use Prim.Native.Nat.{_+_, _*_, _≤_, _<_};
 ghost use lib.ListN.{length};
 ghost use Rattle.layout.specs.Bytes.{at, word, wordSize};
-ghost use Rattle.layout.specs.Block.{lettersSound, checkSound, headSound, sizesSound, restSound, blockRefusal};
+ghost use Rattle.layout.specs.Block.{lettersSound, checkSound, versionSound, headSound, sizesSound, restSound, blockRefusal};
 
 // The letters that each block of a flow begins with.
 pub const LETTERS: [u8; 4] = *b"SFLW";
-
-pub const VERSION: u8 = 1;
 
 // The numbers of tasks, workers and cells that a block states.
 pub struct Sizes {
@@ -29,6 +27,14 @@ pub fn sizes_of(block: &[u8]) -> Sizes
     }
 }
 
+// The version that a block states.
+pub fn version_of(block: &[u8]) -> u32
+    requires { ⌜ 512 ≤ length (now block) ⌝ }
+    ensures { λ r. ⌜ r ≡ at (now (block .entry)) 4 ⌝ }
+{
+    octets::wide(block[4])
+}
+
 // 2: check A and check B.
 fn check_sound(block: &[u8]) -> bool
     requires { ⌜ length (now block) ≡ 512 ⌝ }
@@ -45,7 +51,7 @@ fn letters_sound(block: &[u8], four: &[u8; 4]) -> bool
     (block[0] == four[0]) & (block[1] == four[1]) & (block[2] == four[2]) & (block[3] == four[3])
 }
 
-// 3: letters, version, block number, number of blocks, and bytes 14-15.
+// 3: letters, block number, number of blocks, and bytes 14-15.
 fn head_sound(block: &[u8], index: u32, blocks: u32) -> bool
     requires { ⌜ length (now block) ≡ 512 ⌝ }
     ensures { λ r. ⌜ r ≡ headSound blocks index (now (block .entry)) ⌝ }
@@ -53,12 +59,16 @@ fn head_sound(block: &[u8], index: u32, blocks: u32) -> bool
     let letters = letters_sound(block, &LETTERS);
     let number = octets::word(block[6], block[7]);
     let count = octets::word(block[8], block[9]);
-    letters
-        & (block[4] == VERSION)
-        & (number == index)
-        & (count == blocks)
-        & (block[14] == 0)
-        & (block[15] == 0)
+    letters & (number == index) & (count == blocks) & (block[14] == 0) & (block[15] == 0)
+}
+
+// 3: the version is known, and block 0's.
+fn version_sound(block: &[u8], version: u32) -> bool
+    requires { ⌜ length (now block) ≡ 512 ⌝ }
+    ensures { λ r. ⌜ r ≡ versionSound version (now (block .entry)) ⌝ }
+{
+    let here = version_of(block);
+    flow::known(here) & (here == version)
 }
 
 // 4: the sizes are within range and block 0's, the blocks are the fewest for the tasks, and the rows in this block are right.
@@ -87,16 +97,19 @@ fn rest_sound(block: &[u8]) -> bool
     octets::all_zero(&block[from..510])
 }
 
-// The first of 2 to 5 that the block breaks; 0 where it breaks none. The file has so many blocks, and block 0 states `first`.
-pub fn refusal(block: &[u8], index: u32, blocks: u32, first: Sizes) -> u32
+// The first of 2 to 5 that the block breaks; 0 where it breaks none. The file has so many blocks, and block 0 states this version and `first`.
+pub fn refusal(block: &[u8], index: u32, blocks: u32, version: u32, first: Sizes) -> u32
     requires { ⌜ length (now block) ≡ 512 ⌝ }
     requires { ⌜ (index < wordSize) × (first .tasks < wordSize) ⌝ }
-    ensures { λ r. ⌜ r ≡ blockRefusal blocks (first .tasks) (first .workers) (first .cells) index (now (block .entry)) ⌝ }
+    ensures { λ r. ⌜ r ≡ blockRefusal blocks version (first .tasks) (first .workers) (first .cells) index (now (block .entry)) ⌝ }
 {
     if !check_sound(block) {
         return 2;
     }
     if !head_sound(block, index, blocks) {
+        return 3;
+    }
+    if !version_sound(block, version) {
         return 3;
     }
     if !sizes_sound(block, index, blocks, first) {

@@ -14,7 +14,7 @@ use Rattle.layout.specs.Refusal as Rules
 use Rattle.layout.specs.Refusal.{success, refusal, unless, orElse, firstAt}
 use Rattle.layout.specs.Row.{rowRefusal}
 use Rattle.layout.specs.Block.{blocksFor, blockRefusal}
-use Rattle.layout.specs.File.{blockAt, rowAt, tasksOf, workersOf, cellsOf, lengthSound, fileAnswer}
+use Rattle.layout.specs.File.{blockAt, rowAt, versionOf, tasksOf, workersOf, cellsOf, lengthSound, fileAnswer}
 use Rattle.roundtrip.proofs.NoRefusal.{second-given, rule-passed, none-at}
 use Rattle.roundtrip.proofs.BlockRules.{BlockKept, block-keeps}
 use Rattle.block.specs.declared.Sizes.{Sizes}
@@ -44,9 +44,9 @@ unfolding fileAnswer
 length-refused file h = rw h
 
 -- the first refusal among the blocks, and among the rows
-abbrev pub fromBlocks : List ℕ → ℕ → ℕ → ℕ → ℕ → Rules.Answer
-fromBlocks file blocks tasks workers cells =
-    firstAt (λ index. blockRefusal blocks tasks workers cells index (blockAt file index)) 0 blocks
+abbrev pub fromBlocks : List ℕ → ℕ → ℕ → ℕ → ℕ → ℕ → Rules.Answer
+fromBlocks file blocks version tasks workers cells =
+    firstAt (λ index. blockRefusal blocks version tasks workers cells index (blockAt file index)) 0 blocks
 
 abbrev pub fromRows : List ℕ → ℕ → ℕ → ℕ → Rules.Answer
 fromRows file tasks workers cells = firstAt (λ task. rowRefusal workers cells (rowAt file task)) 1 tasks
@@ -56,14 +56,15 @@ abbrev pub Stated : List ℕ → Sizes → Type 0
 Stated file sizes = (sizes .tasks ≡ tasksOf file) × (sizes .workers ≡ workersOf file) × (sizes .cells ≡ cellsOf file)
 
 -- what is met in a file of whole blocks
-pub record BlocksMet (file : List ℕ) (blocks : ℕ) (sizes : Sizes) (met : Answer) : Type 0 where
+pub record BlocksMet (file : List ℕ) (blocks version : ℕ) (sizes : Sizes) (met : Answer) : Type 0 where
   pub whole : WholePieces 512 mostBytes (length file) blocks
+  pub version-is : version ≡ versionOf file
   pub stated : Stated file sizes
-  pub found : met ≡ answerOf (fromBlocks file blocks (sizes .tasks) (sizes .workers) (sizes .cells))
+  pub found : met ≡ answerOf (fromBlocks file blocks version (sizes .tasks) (sizes .workers) (sizes .cells))
 
-module _ {file : List ℕ} {blocks : ℕ} {sizes : Sizes} {met : Answer} (m : BlocksMet file blocks sizes met) where
+module _ {file : List ℕ} {blocks version : ℕ} {sizes : Sizes} {met : Answer} (m : BlocksMet file blocks version sizes met) where
   abbrev by-blocks : Rules.Answer
-  by-blocks = fromBlocks file blocks (sizes .tasks) (sizes .workers) (sizes .cells)
+  by-blocks = fromBlocks file blocks version (sizes .tasks) (sizes .workers) (sizes .cells)
 
   abbrev by-rows : Rules.Answer
   by-rows = fromRows file (sizes .tasks) (sizes .workers) (sizes .cells)
@@ -75,7 +76,7 @@ module _ {file : List ℕ} {blocks : ℕ} {sizes : Sizes} {met : Answer} (m : Bl
   unfolding fileAnswer
   parts =
       (λ i.
-      orElse (fromBlocks file (m .whole .count-is i) (m .stated .0 i) (m .stated .1 i) (m .stated .2 i))
+      orElse (fromBlocks file (m .whole .count-is i) (m .version-is i) (m .stated .0 i) (m .stated .1 i) (m .stated .2 i))
       (fromRows file (m .stated .0 i) (m .stated .1 i) (m .stated .2 i)))
       ∙ sym (rule-passed (lengthSound (length file)) 1 _ (m .whole .sound))
 
@@ -86,9 +87,9 @@ module _ {file : List ℕ} {blocks : ℕ} {sizes : Sizes} {met : Answer} (m : Bl
   row-answers none e = e ∙ ap answerOf (sym (second-given by-blocks by-rows (same-number ∙ none)) ∙ parts)
 
   -- block 0 keeps the rules
-  first-kept : met .number ≡ 0 → BlockKept blocks (sizes .tasks) (sizes .workers) (sizes .cells) 0 (blockAt file 0)
+  first-kept : met .number ≡ 0 → BlockKept blocks version (sizes .tasks) (sizes .workers) (sizes .cells) 0 (blockAt file 0)
   first-kept none =
-      block-keeps blocks (sizes .tasks) (sizes .workers) (sizes .cells) 0 (blockAt file 0)
+      block-keeps blocks version (sizes .tasks) (sizes .workers) (sizes .cells) 0 (blockAt file 0)
       (rw zero-add at (none-at _ 0 blocks (same-number ∙ none) 0 (m .whole .some)))
 
   -- so that the rows stand within the file

@@ -1,5 +1,5 @@
--- What the check answers follows from the answer that its rules give: with a refusal every size is 0, and with success the sizes are
--- told. What a call that goes on after the check has of it: the same answer, and of an accepted file the sizes, which are within the
+-- What the check answers follows from the answer that its rules give: with a refusal every size and the version is 0, and with success
+-- they are told. What a call that goes on after the check has of it: the same answer, and of an accepted file the sizes, which are within the
 -- limits, the rows and the flow.
 use mathlib.Core.Path.{_≡_, sym, ap, subst, _∙_}
 use mathlib.Core.List.{List}
@@ -11,7 +11,7 @@ use Rattle.layout.specs.Flow.{mostTasks, WithinLimits}
 use Rattle.layout.specs.Refusal as Rules
 use Rattle.layout.specs.Refusal.{success, refusal}
 use Rattle.layout.specs.Block.{blocksFor}
-use Rattle.layout.specs.File.{tasksOf, workersOf, cellsOf, fileAnswer, flowOf, tasksIn, lentAfter}
+use Rattle.layout.specs.File.{versionOf, tasksOf, workersOf, cellsOf, fileAnswer, flowOf, tasksIn, lentAfter}
 use Rattle.roundtrip.proofs.Answers.{FileKept, file-keeps, keeps-file}
 use Rattle.roundtrip.proofs.Read.{fewest, file-sizes}
 use Rattle.block.specs.declared.Sizes.{Sizes}
@@ -35,9 +35,10 @@ module _ (met : Rules.Answer) (some : met .number ≡ 0 → ⊥) where
 
 -- ---- an accepted file
 
--- the check's answer for sizes that the file states
-abbrev pub checkAll : Sizes → CheckAnswer
-checkAll sizes = record { number = 0; place = 0; tasks = sizes .tasks; workers = sizes .workers; cells = sizes .cells }
+-- the check's answer for the version and the sizes that the file states
+abbrev pub checkAll : ℕ → Sizes → CheckAnswer
+checkAll version sizes =
+    record { number = 0; place = 0; tasks = sizes .tasks; workers = sizes .workers; cells = sizes .cells; version = version }
 
 module _ (file : List ℕ) (none : fileAnswer file .number ≡ 0) where
   pub file-kept : FileKept file
@@ -52,11 +53,11 @@ module _ (file : List ℕ) (none : fileAnswer file .number ≡ 0) where
   pub rows-stand : length file ≡ 512 * blocksFor (tasksOf file)
   rows-stand = omega (arith, file-kept, fewest file file-kept)
 
-  pub check-done : (sizes : Sizes) → Stated file sizes → CheckPromise file (checkAll sizes)
-  check-done sizes stated =
+  pub check-done : (version : ℕ) (sizes : Sizes) → version ≡ versionOf file → Stated file sizes → CheckPromise file (checkAll version sizes)
+  check-done version sizes version-is stated =
       record {
         answer =
-            (λ i. checkAll record { tasks = stated .0 i; workers = stated .1 i; cells = stated .2 i })
+            (λ i. checkAll (version-is i) record { tasks = stated .0 i; workers = stated .1 i; cells = stated .2 i })
             ∙ ap (λ (a : Rules.Answer). checkWith a file) succeeds;
       }
 
@@ -73,7 +74,11 @@ module _ {file : List ℕ} {met : CheckAnswer} (promised : CheckPromise file met
     pub met-is : met ≡ checkWith success file
     met-is = promised .answer ∙ ap (λ (a : Rules.Answer). checkWith a file) (sym (succeeds file accepted))
 
-    -- its sizes
+    -- its version and sizes
+    pub version-held : met .version ≡ flowOf file .version
+    unfolding flowOf
+    version-held = ap (λ (a : CheckAnswer). a .version) met-is
+
     pub tasks-are : met .tasks ≡ tasksOf file
     tasks-are = ap (λ (a : CheckAnswer). a .tasks) met-is
 

@@ -34,14 +34,14 @@ fn whole_blocks(bytes: usize) -> u32
 }
 
 // The first refusal among the blocks.
-fn blocks_met(file: &[u8], blocks: u32, first: Sizes) -> Answer
+fn blocks_met(file: &[u8], blocks: u32, version: u32, first: Sizes) -> Answer
     requires { ⌜ (length (now file) ≡ 512 * blocks) × (blocks ≤ mostBlocks) × (first .tasks < wordSize) ⌝ }
-    ensures { λ r. ⌜ r ≡ answerOf (firstAt (λ index. blockRefusal blocks (first .tasks) (first .workers) (first .cells) index (blockAt (now (file .entry)) index)) 0 blocks) ⌝ }
+    ensures { λ r. ⌜ r ≡ answerOf (firstAt (λ index. blockRefusal blocks version (first .tasks) (first .workers) (first .cells) index (blockAt (now (file .entry)) index)) 0 blocks) ⌝ }
 {
     let mut index: u32 = 0;
     while index < blocks {
         let from = octets::offset(512 * index);
-        let number = block::refusal(&file[from..from + 512], index, blocks, first);
+        let number = block::refusal(&file[from..from + 512], index, blocks, version, first);
         if number != 0 {
             return Answer {
                 number,
@@ -90,15 +90,16 @@ pub fn first_refusal(file: &[u8]) -> Answer
             place: 0,
         };
     }
+    let version = block::version_of(file);
     let sizes = block::sizes_of(file);
-    let met = blocks_met(file, blocks, sizes);
+    let met = blocks_met(file, blocks, version, sizes);
     if met.number != 0 {
         return met;
     }
     rows_met(file, sizes)
 }
 
-// The check of a flow file: 0 with the flow's sizes, or the first refusal met.
+// The check of a flow file: 0 with the flow's sizes and its version, or the first refusal met.
 pub fn check(file: &[u8]) -> CheckAnswer
     ensures { λ r. ⌜ CheckPromise (now (file .entry)) r ⌝ }
 {
@@ -106,6 +107,7 @@ pub fn check(file: &[u8]) -> CheckAnswer
     if met.number != 0 {
         return CheckAnswer::refused(met.number, met.place);
     }
+    let version = block::version_of(file);
     let sizes = block::sizes_of(file);
     CheckAnswer {
         number: 0,
@@ -113,5 +115,6 @@ pub fn check(file: &[u8]) -> CheckAnswer
         tasks: sizes.tasks,
         workers: sizes.workers,
         cells: sizes.cells,
+        version,
     }
 }

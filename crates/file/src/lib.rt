@@ -13,17 +13,18 @@ pub struct Answer {
     pub place: u32,
 }
 
-// What the check of a file answers: a refusal, or the flow's sizes.
+// What the check of a file answers: a refusal, or the flow's sizes and its version.
 pub struct CheckAnswer {
     pub number: u32,
     pub place: u32,
     pub tasks: u32,
     pub workers: u32,
     pub cells: u32,
+    pub version: u32,
 }
 
 impl CheckAnswer {
-    // A refusal reports zero sizes.
+    // A refusal reports zero sizes and no version.
     fn refused(number: u32, place: u32) -> CheckAnswer
         ensures { λ r. ⌜ r ≡ checkRefused (refusal number place) ⌝ }
     {
@@ -33,6 +34,7 @@ impl CheckAnswer {
             tasks: 0,
             workers: 0,
             cells: 0,
+            version: 0,
         }
     }
 }

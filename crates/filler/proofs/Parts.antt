@@ -54,17 +54,17 @@ unfolding padded
 padded-length size bytes h = simp (length-append, length-replicate) (omega arith)
 
 -- a head, padded rows and the check over them are a block
-pub filled : (tasks workers cells index from to : ℕ) (all part head copied rows done : List ℕ) → length part ≡ 512
-    → head ≡ headOf tasks workers cells index
+pub filled : (version tasks workers cells index from to : ℕ) (all part head copied rows done : List ℕ) → length part ≡ 512
+    → head ≡ headOf version tasks workers cells index
     → copied ≡ take (length head) head ++ drop (length head) part
     → from ≡ 480 * index
     → to ≡ from + 48 * rowsIn tasks index
     → rows ≡ padded 494 (take (to - from) (drop from all))
     → done ≡ sealed (take 510 (take 16 copied ++ (rows ++ drop 494 (drop 16 copied))))
-    → done ≡ blockOf tasks workers cells all index
+    → done ≡ blockOf version tasks workers cells all index
 unfolding bodyOf blockOf
-filled tasks workers cells index from to all part head copied rows done lp eh ec ef et er ed =
-    let first : List ℕ = headOf tasks workers cells index in
+filled version tasks workers cells index from to all part head copied rows done lp eh ec ef et er ed =
+    let first : List ℕ = headOf version tasks workers cells index in
     let mine : List ℕ = take (48 * rowsIn tasks index) (drop (480 * index) all) in
     let count : to - from ≡ 48 * rowsIn tasks index = omega arith in
     let ec′ : copied ≡ first ++ drop 16 part = ec ∙ ap (λ (h : List ℕ). take (length h) h ++ drop (length h) part) eh in

@@ -1,6 +1,5 @@
 // The filling of a block in its own part of the lent output: the head, the block's rows and zeros after them, and the check.
 use block::LETTERS;
-use block::VERSION;
 use flow::Flow;
 ghost use mathlib.Core.Path.{_≡_};
 ghost use Prim.Native.Nat.{_+_, _*_, _≤_, _<_};
@@ -12,8 +11,10 @@ ghost use Rattle.layout.specs.Block.{blocksFor, headOf, sealed, blockOf};
 // Bytes 0-15.
 fn head(index: u32, flow: Flow) -> [u8; 16]
     requires { ⌜ (index < mostBlocks) × (flow .tasks ≤ mostTasks) × (flow .workers ≤ mostWorkers) × (flow .cells ≤ mostCells) ⌝ }
-    ensures { λ r. ⌜ r ≡ headOf (flow .tasks) (flow .workers) (flow .cells) index ⌝ }
+    requires { ⌜ flow .version < 256 ⌝ }
+    ensures { λ r. ⌜ r ≡ headOf (flow .version) (flow .tasks) (flow .workers) (flow .cells) index ⌝ }
 {
+    let version = flow.version as u8;
     let rows = flow::rows_in(flow.tasks, index) as u8;
     let blocks = flow::blocks_for(flow.tasks);
     let index_low = octets::low(index);
@@ -29,7 +30,7 @@ fn head(index: u32, flow: Flow) -> [u8; 16]
         LETTERS[1],
         LETTERS[2],
         LETTERS[3],
-        VERSION,
+        version,
         rows,
         index_low,
         index_high,
@@ -67,8 +68,8 @@ fn seal(part: &mut [u8])
 pub fn fill(part: &mut [u8], all: &[u8], index: u32, flow: Flow)
     requires { ⌜ length (now part) ≡ 512 ⌝ }
     requires { ⌜ (length (now all) ≡ 48 * flow .tasks) × (flow .tasks ≤ mostTasks) × (index < blocksFor (flow .tasks)) ⌝ }
-    requires { ⌜ (flow .workers ≤ mostWorkers) × (flow .cells ≤ mostCells) ⌝ }
-    ensures { λ _. ⌜ now (part .exit) ≡ blockOf (flow .tasks) (flow .workers) (flow .cells) (now (all .entry)) index ⌝ }
+    requires { ⌜ (flow .workers ≤ mostWorkers) × (flow .cells ≤ mostCells) × (flow .version < 256) ⌝ }
+    ensures { λ _. ⌜ now (part .exit) ≡ blockOf (flow .version) (flow .tasks) (flow .workers) (flow .cells) (now (all .entry)) index ⌝ }
 {
     let first = head(index, flow);
     bytes::copy(&first, part);

@@ -1,46 +1,81 @@
--- Numbers 0 and 4 differ, so the constructor's answer tells whether the sizes are within the limits, and a flow that was made
--- has the sizes that were asked for.
+-- Numbers 0, 4 and 22 differ, so the constructor's answer tells whether the version is known and the sizes are within the limits, and a
+-- flow that was made has the version and the sizes that were asked for.
 use mathlib.Core.Path.{_≡_, refl, ap}
 use mathlib.Core.Bool.{Bool, true, false, cond}
 use Prim.Native.Nat.{ℕ}
 use native.Mathlib.Omega.{arith}
-use Rattle.layout.specs.Flow.{inRange}
-use Rattle.flow.specs.Made.{SizesAnswer, stated, statedBy, askedFor}
+use Rattle.layout.specs.Flow.{knownVersion, inRange}
+use Rattle.flow.specs.Made.{FlowAnswer, stated, refused, statedBy, askedFor}
 use Rattle.flow.specs.declared.Flow.{Flow}
-use Rattle.flow.specs.declared.Made.the-variants.{Within, Outside}
+use Rattle.flow.specs.declared.Made.the-variants.{Within, OtherVersion, Outside}
 
--- the flow has the sizes asked for, and they are within the limits
-pub record MadeAs (flow : Flow) (tasks workers cells : ℕ) : Type 0 where
+-- the flow has the version and the sizes asked for, and they are known and within the limits
+pub record MadeAs (flow : Flow) (version tasks workers cells : ℕ) : Type 0 where
+  pub known : knownVersion version ≡ true
   pub range : inRange tasks workers cells ≡ true
+  pub version-is : flow .version ≡ version
   pub tasks-is : flow .tasks ≡ tasks
   pub workers-is : flow .workers ≡ workers
   pub cells-is : flow .cells ≡ cells
 
-no-four : {A : Type 0} → _≡_ {A = ℕ} 0 4 → A
-no-four e = absurd (omega arith)
+-- the numbers of two equal answers
+numbers : {a b : FlowAnswer} → a ≡ b → a .number ≡ b .number
+numbers e = ap (λ (s : FlowAnswer). s .number) e
 
-no-zero : {A : Type 0} → _≡_ {A = ℕ} 4 0 → A
-no-zero e = absurd (omega arith)
+no-0-4 : {A : Type 0} → _≡_ {A = ℕ} 0 4 → A
+no-0-4 e = absurd (omega arith)
 
-pub within-is : (flow : Flow) (tasks workers cells : ℕ) → statedBy (Within flow) ≡ askedFor tasks workers cells
-    → MadeAs flow tasks workers cells
-within-is flow tasks workers cells e = go (inRange tasks workers cells) refl e
-  where
-    go : (b : Bool) → inRange tasks workers cells ≡ b → statedBy (Within flow) ≡ cond b (stated 0 0 tasks workers cells) (stated 4 0 0 0 0)
-        → MadeAs flow tasks workers cells
-    go true r p =
-        record {
-          range = r;
-          tasks-is = ap (λ (s : SizesAnswer). s .tasks) p;
-          workers-is = ap (λ (s : SizesAnswer). s .workers) p;
-          cells-is = ap (λ (s : SizesAnswer). s .cells) p;
-        }
-    go false r p = no-four (ap (λ (s : SizesAnswer). s .number) p)
+no-0-22 : {A : Type 0} → _≡_ {A = ℕ} 0 22 → A
+no-0-22 e = absurd (omega arith)
 
-pub outside-is : (tasks workers cells : ℕ) → statedBy Outside ≡ askedFor tasks workers cells → inRange tasks workers cells ≡ false
-outside-is tasks workers cells e = go (inRange tasks workers cells) refl e
-  where
-    go : (b : Bool) → inRange tasks workers cells ≡ b → statedBy Outside ≡ cond b (stated 0 0 tasks workers cells) (stated 4 0 0 0 0)
-        → inRange tasks workers cells ≡ false
-    go true r p = no-zero (ap (λ (s : SizesAnswer). s .number) p)
-    go false r p = r
+no-4-22 : {A : Type 0} → _≡_ {A = ℕ} 4 22 → A
+no-4-22 e = absurd (omega arith)
+
+no-4-0 : {A : Type 0} → _≡_ {A = ℕ} 4 0 → A
+no-4-0 e = absurd (omega arith)
+
+no-22-0 : {A : Type 0} → _≡_ {A = ℕ} 22 0 → A
+no-22-0 e = absurd (omega arith)
+
+no-22-4 : {A : Type 0} → _≡_ {A = ℕ} 22 4 → A
+no-22-4 e = absurd (omega arith)
+
+module _ (version tasks workers cells : ℕ) where
+  -- the answer, by what the two tests give
+  abbrev given : Bool → Bool → FlowAnswer
+  given known range = cond known (cond range (stated version tasks workers cells) (refused 4)) (refused 22)
+
+  pub within-is : (flow : Flow) → statedBy (Within flow) ≡ askedFor version tasks workers cells → MadeAs flow version tasks workers cells
+  within-is flow e = go (knownVersion version) (inRange tasks workers cells) refl refl e
+    where
+      go : (k r : Bool) → knownVersion version ≡ k → inRange tasks workers cells ≡ r → statedBy (Within flow) ≡ given k r
+          → MadeAs flow version tasks workers cells
+      go true true known range p =
+          record {
+            known = known;
+            range = range;
+            version-is = ap (λ (s : FlowAnswer). s .version) p;
+            tasks-is = ap (λ (s : FlowAnswer). s .tasks) p;
+            workers-is = ap (λ (s : FlowAnswer). s .workers) p;
+            cells-is = ap (λ (s : FlowAnswer). s .cells) p;
+          }
+      go true false known range p = no-0-4 (numbers p)
+      go false r known range p = no-0-22 (numbers p)
+
+  pub other-version-is : statedBy OtherVersion ≡ askedFor version tasks workers cells → knownVersion version ≡ false
+  other-version-is e = go (knownVersion version) (inRange tasks workers cells) refl e
+    where
+      go : (k r : Bool) → knownVersion version ≡ k → statedBy OtherVersion ≡ given k r → knownVersion version ≡ false
+      go true true known p = no-22-0 (numbers p)
+      go true false known p = no-22-4 (numbers p)
+      go false r known p = known
+
+  pub outside-is : statedBy Outside ≡ askedFor version tasks workers cells
+      → (knownVersion version ≡ true) × (inRange tasks workers cells ≡ false)
+  outside-is e = go (knownVersion version) (inRange tasks workers cells) refl refl e
+    where
+      go : (k r : Bool) → knownVersion version ≡ k → inRange tasks workers cells ≡ r → statedBy Outside ≡ given k r
+          → (knownVersion version ≡ true) × (inRange tasks workers cells ≡ false)
+      go true true known range p = no-4-0 (numbers p)
+      go true false known range p = (known, range)
+      go false r known range p = no-4-22 (numbers p)

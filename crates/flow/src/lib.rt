@@ -1,13 +1,14 @@
-// The flow's own kind: its limits, which all code reads from here, and the sizes of one flow within them.
+// The flow's own kind: its versions and limits, which all code reads from here, and the version and sizes of one flow within them.
 ghost use mathlib.Core.Path.{_≡_};
 ghost use Prim.Native.Nat.{_+_, _*_, _<_};
 ghost use Rattle.layout.specs.Bytes.{wordSize};
-ghost use Rattle.layout.specs.Flow.{inRange};
+ghost use Rattle.layout.specs.Flow.{knownVersion, inRange};
 ghost use Rattle.layout.specs.Block.{blocksFor, rowsIn};
 ghost use Rattle.flow.specs.Made.{statedBy, askedFor};
 
-// The sizes of a flow: numbers of tasks, workers and cells.
+// A flow's version, and its sizes: the numbers of tasks, workers and cells.
 pub struct Flow {
+    pub version: u32,
     pub tasks: u32,
     pub workers: u32,
     pub cells: u32,
@@ -16,10 +17,16 @@ pub struct Flow {
 // What the constructor answers.
 pub enum Made {
     Within(Flow),
+    OtherVersion,
     Outside,
 }
 
 impl Flow {
+    // Operation 5 clears the high half in version 1, and keeps the high half of b in version 2.
+    pub const VERSION_1: u32 = 1;
+
+    pub const VERSION_2: u32 = 2;
+
     pub const MAX_TASKS: u32 = 200;
 
     pub const MAX_WORKERS: u32 = 8;
@@ -45,33 +52,39 @@ impl Flow {
 
     pub const ROOM_FOR_CELLS: usize = Flow::MAX_CELLS as usize;
 
-    // A flow of these sizes, refused where one of them is outside the limits.
-    pub fn new(tasks: u32, workers: u32, cells: u32) -> Made
-        ensures { λ r. ⌜ statedBy r ≡ askedFor tasks workers cells ⌝ }
+    // A flow of this version and these sizes, refused where the version is another, and then where a size is outside the limits.
+    pub fn new(version: u32, tasks: u32, workers: u32, cells: u32) -> Made
+        ensures { λ r. ⌜ statedBy r ≡ askedFor version tasks workers cells ⌝ }
     {
-        if ((1 <= tasks) & (tasks <= Flow::MAX_TASKS))
-            & ((1 <= workers) & (workers <= Flow::MAX_WORKERS))
-            & ((1 <= cells) & (cells <= Flow::MAX_CELLS))
-        {
-            Made::Within(Flow {
-                tasks,
-                workers,
-                cells,
-            })
-        } else {
-            Made::Outside
+        if !known(version) {
+            return Made::OtherVersion;
         }
+        if !within(tasks, workers, cells) {
+            return Made::Outside;
+        }
+        Made::Within(Flow {
+            version,
+            tasks,
+            workers,
+            cells,
+        })
     }
+}
+
+// Whether there are flows of this version.
+pub fn known(version: u32) -> bool
+    ensures { λ r. ⌜ r ≡ knownVersion version ⌝ }
+{
+    (version == Flow::VERSION_1) | (version == Flow::VERSION_2)
 }
 
 // Whether there can be a flow of these sizes.
 pub fn within(tasks: u32, workers: u32, cells: u32) -> bool
     ensures { λ r. ⌜ r ≡ inRange tasks workers cells ⌝ }
 {
-    match Flow::new(tasks, workers, cells) {
-        Made::Within(_) => true,
-        Made::Outside => false,
-    }
+    ((1 <= tasks) & (tasks <= Flow::MAX_TASKS))
+        & ((1 <= workers) & (workers <= Flow::MAX_WORKERS))
+        & ((1 <= cells) & (cells <= Flow::MAX_CELLS))
 }
 
 // The fewest blocks for so many tasks.

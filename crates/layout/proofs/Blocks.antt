@@ -1,15 +1,24 @@
--- What the tests of sizes tell: sizes within range are within the limits, and a block whose sizes are sound has at most ten rows.
-use mathlib.Core.Path.{_≡_, sym, _∙_}
-use mathlib.Core.Bool.{Bool, true, false, not, _&&_}
+-- What the tests of version and sizes tell: a known version is a byte, sizes within range are within the limits, and a block whose sizes
+-- are sound has at most ten rows.
+use mathlib.Core.Path.{_≡_, refl, sym, _∙_}
+use mathlib.Core.Bool.{Bool, true, false, not, _&&_, _||_}
 use mathlib.Core.List.{List}
-use Prim.Native.Nat.{ℕ, _≤_}
+use Prim.Native.Nat.{ℕ, _≤_, _<_}
 use native.Mathlib.Omega.{arith}
 use borrow.Author.Tests.{eqb-true, leb-true, not-false}
 use lib.Dec.{eqb, leb}
 use Rattle.layout.specs.Bytes.{at, word}
-use Rattle.layout.specs.Flow.{mostTasks, mostWorkers, mostCells, inRange, upTo, WithinLimits}
+use Rattle.layout.specs.Flow.{knownVersion, mostTasks, mostWorkers, mostCells, inRange, upTo, WithinLimits}
 use Rattle.layout.specs.Block.{blocksFor, rowsIn, states, sizesSound}
 use Rattle.layout.proofs.Lists.{and-left, and-right}
+
+-- one of two numbers that are bytes
+pub version-byte : (version : ℕ) → knownVersion version ≡ true → version < 256
+version-byte version h = go (eqb version 1) refl h
+  where
+    go : (first : Bool) → eqb version 1 ≡ first → (first || eqb version 2) ≡ true → version < 256
+    go true e k = omega (arith, eqb-true version 1 e)
+    go false e k = omega (arith, eqb-true version 2 k)
 
 pub in-range : (tasks workers cells : ℕ) → inRange tasks workers cells ≡ true → WithinLimits tasks workers cells
 in-range tasks workers cells h =

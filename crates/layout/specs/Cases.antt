@@ -1,5 +1,5 @@
--- Worked cases of the check, as a table of what is got and what is expected: declared writes (02, Q-6), in flows of 2 workers and
--- 3 cells. `proofs/Cases.antt` proves the table under a single statement.
+-- Worked cases of the check, as a table of what is got and what is expected: declared writes (02, Q-6), in flows of version 1 with 2 workers
+-- and 3 cells. `proofs/Cases.antt` proves the table under a single statement.
 use mathlib.Core.List.{List, [], _∷_, _++_}
 use Prim.Native.Nat.{ℕ}
 use Rattle.layout.specs.Bytes.{padded}
@@ -16,7 +16,7 @@ gives got expected = record { got = got; expected = expected }
 -- the number and the place that the check gives for a file of these rows
 unfoldable pub checkOf : List ℕ → List ℕ
 checkOf rows =
-    fileAnswer (fileOf (rowCount rows) 2 3 rows) .number ∷ fileAnswer (fileOf (rowCount rows) 2 3 rows) .place ∷ []
+    fileAnswer (fileOf 1 (rowCount rows) 2 3 rows) .number ∷ fileAnswer (fileOf 1 (rowCount rows) 2 3 rows) .place ∷ []
 
 -- ---- the rows
 

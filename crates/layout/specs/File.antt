@@ -1,4 +1,4 @@
--- The file check (01, "The file" and "Numbers of refusal"): where a block and a row stand, the order in which refusals are met,
+-- The file check (01, "The file" and "Numbers of refusal"; 02): where a block and a row stand, the order in which refusals are met,
 -- the check as one function from bytes to a refusal or the accepted flow, and what the reader answers and leaves.
 use mathlib.Core.Bool.{Bool, cond, _&&_}
 use mathlib.Core.List.{List, _++_}
@@ -30,7 +30,10 @@ rowAt file task = part (rowStart task) (rowStart task + 48) file
 abbrev pub blocksOf : List ℕ → ℕ
 blocksOf file = length file / 512
 
--- block 0's tasks, workers and cells
+-- block 0's version, tasks, workers and cells
+abbrev pub versionOf : List ℕ → ℕ
+versionOf file = at file 4
+
 abbrev pub tasksOf : List ℕ → ℕ
 tasksOf file = word file 10
 
@@ -49,7 +52,7 @@ lengthSound bytes = leb 1 bytes && leb bytes mostBytes && eqb (bytes % 512) 0
 -- 2 to 5 on one block
 abbrev pub blockNumber : List ℕ → ℕ → ℕ
 blockNumber file index =
-    blockRefusal (blocksOf file) (tasksOf file) (workersOf file) (cellsOf file) index (blockAt file index)
+    blockRefusal (blocksOf file) (versionOf file) (tasksOf file) (workersOf file) (cellsOf file) index (blockAt file index)
 
 -- 6 to 11 and 17 on one task
 abbrev pub rowNumber : List ℕ → ℕ → ℕ
@@ -67,7 +70,13 @@ tasksIn file tasks = each tasks (λ i. taskOf (rowAt file (i + 1)))
 
 -- the flow that a file holds
 unfoldable pub flowOf : List ℕ → Flow
-flowOf file = record { workers = workersOf file; cells = cellsOf file; tasks = tasksIn file (tasksOf file) }
+flowOf file =
+    record {
+      version = versionOf file;
+      workers = workersOf file;
+      cells = cellsOf file;
+      tasks = tasksIn file (tasksOf file);
+    }
 
 -- a file is refused, or it is accepted as a flow
 pub data Checked : Type 0 where

@@ -1,8 +1,8 @@
--- A flow as a value (01, "What is built"), on which the runs and their theorems are stated, and its limits.
-use mathlib.Core.Bool.{Bool, _&&_}
+-- A flow as a value (01, "What is built"; 02, Q-8), on which the runs and their theorems are stated, its limits and its versions.
+use mathlib.Core.Bool.{Bool, _&&_, _||_}
 use mathlib.Core.List.{List}
 use Prim.Native.Nat.{ℕ, _*_, _≤_}
-use lib.Dec.{leb}
+use lib.Dec.{eqb, leb}
 
 -- a cell that a task names, and the mode under which it does: 1 read, 2 write only, 3 read and write
 pub record Access : Type 0 where
@@ -22,11 +22,18 @@ pub record Task : Type 0 where
   pub accesses : List Access
   pub operations : List Operation
 
--- the tasks in list order: task 1 is the first
+-- the version, by which operation 5 goes; the workers and cells; the tasks in list order: task 1 is the first
 pub record Flow : Type 0 where
+  pub version : ℕ
   pub workers : ℕ
   pub cells : ℕ
   pub tasks : List Task
+
+-- ---- the versions
+
+-- "neither 1 nor 2" is refused
+abbrev pub knownVersion : ℕ → Bool
+knownVersion version = eqb version 1 || eqb version 2
 
 -- ---- the limits
 

@@ -9,3 +9,4 @@ pub mod Block
 pub mod File
 pub mod Write
 pub mod Cases
+pub mod Versions

@@ -54,7 +54,7 @@ held-back pastLast held m after = refl
 held-back (writeDiffers cell) held m after = refl
 held-back (readsDiffer cell) held m after = refl
 
-module _ (row : List ℕ) (w : ℕ) (kept : Arrays) where
+module _ (version : ℕ) (row : List ℕ) (w : ℕ) (kept : Arrays) where
   abbrev try : Try
   try = tryAt row (stageAt kept w) (indexAt kept w)
 
@@ -68,27 +68,27 @@ module _ (row : List ℕ) (w : ℕ) (kept : Arrays) where
   pub own-step-made : (why : Outcome) (cells′ : List ℕ) (shared′ : List (List ℕ)) (private′ : List (List (List ℕ))) (next : List ℕ)
       → why ≡ advanced
       → why ≡ outcome (machineOf [] (arrays [] (kept .shared) (kept .private) [])) w try
-      → ChangedBy w number (arrays (kept .cells) (kept .shared) (kept .private) []) try (arrays cells′ shared′ private′ [])
+      → ChangedBy version w number (arrays (kept .cells) (kept .shared) (kept .private) []) try (arrays cells′ shared′ private′ [])
       → next ≡ then
       → w < length (kept .places)
-      → OwnStep row w kept why (arrays cells′ shared′ private′ (set (kept .places) w next))
+      → OwnStep version row w kept why (arrays cells′ shared′ private′ (set (kept .places) w next))
   unfolding attempted
   own-step-made why cells′ shared′ private′ next e told changed is h =
       record {
         shape = changed .0;
         cells-size =
             ap (λ (m : Machine). length (m .cells)) (changed .1)
-            ∙ change-size effect number (machineOf [] (arrays (kept .cells) (kept .shared) (kept .private) [])) w try;
+            ∙ change-size (effect version) number (machineOf [] (arrays (kept .cells) (kept .shared) (kept .private) [])) w try;
         places-are =
             ap (set (kept .places) w) is ∙ ap (λ (y : Outcome). placesAfter y (kept .places) w then) (sym e);
         machine-is = λ tasks.
             let m = machineOf tasks kept in
-            let changed-to = change effect number m w try in
+            let changed-to = change (effect version) number m w try in
             let made = withPlace changed-to w (placeOf tasks then) in
             ap (stepped why)
             (place-stored tasks (arrays cells′ shared′ private′ (kept .places)) w next h
             ∙ ap (λ (to : Machine). withPlace to w (placeOf tasks next))
-            (change-of tasks kept cells′ shared′ private′ effect number w try (changed .1))
+            (change-of tasks kept cells′ shared′ private′ (effect version) number w try (changed .1))
             ∙ ap (λ (to : List ℕ). withPlace changed-to w (placeOf tasks to)) is)
             ∙ ap (λ (y : Outcome). stepped y made) e
             ∙ ap (λ (y : Outcome). attempted y m made) (sym e ∙ told ∙ outcome-of tasks kept w try);
@@ -98,7 +98,7 @@ module _ (row : List ℕ) (w : ℕ) (kept : Arrays) where
   pub own-step-held : (why : Outcome) → Shape (kept .shared) (kept .private)
       → why ≡ outcome (machineOf [] (arrays [] (kept .shared) (kept .private) [])) w try
       → movesOn why ≡ false
-      → OwnStep row w kept why kept
+      → OwnStep version row w kept why kept
   own-step-held why shape told held =
       record {
         shape = shape;
@@ -106,7 +106,7 @@ module _ (row : List ℕ) (w : ℕ) (kept : Arrays) where
         places-are = sym (ap (λ (b : Bool). cond b (set (kept .places) w then) (kept .places)) held);
         machine-is = λ tasks.
             let m = machineOf tasks kept in
-            let made = withPlace (change effect number m w try) w (placeOf tasks then) in
+            let made = withPlace (change (effect version) number m w try) w (placeOf tasks then) in
             held-back why held m made ∙ ap (λ (y : Outcome). attempted y m made) (told ∙ outcome-of tasks kept w try);
       }
 
@@ -123,7 +123,7 @@ standing-kept file tasks places w next standing h placed =
     go v l true = placed
     go v l false = standing .placed v l
 
-module _ (file : List ℕ) (tasks w : ℕ) (kept : Arrays) (sound : Steppable file tasks kept) (h : w < mostWorkers) where
+module _ (file : List ℕ) (version tasks w : ℕ) (kept : Arrays) (sound : Steppable file tasks kept) (h : w < mostWorkers) where
   abbrev passed : ℕ
   passed = passedAt kept w
 
@@ -137,13 +137,13 @@ module _ (file : List ℕ) (tasks w : ℕ) (kept : Arrays) (sound : Steppable fi
   has-place = omega (arith, sound .places-size)
 
   -- past the last task
-  pub step-past : tasks ≤ passed → StepDone file tasks w kept pastLast kept
+  pub step-past : tasks ≤ passed → StepDone file version tasks w kept pastLast kept
   unfolding step stepFrom
   step-past l =
       record {
         sound = sound;
         places-are = refl;
-        machine-is = ap (stepFrom (settingIn file tasks) m w) (sym (each-drop-all tasks (λ i. taskOf (rowAt file (i + 1))) passed l));
+        machine-is = ap (stepFrom (settingIn file version tasks) m w) (sym (each-drop-all tasks (λ i. taskOf (rowAt file (i + 1))) passed l));
       }
 
   module _ (l : passed < tasks) where
@@ -167,25 +167,25 @@ module _ (file : List ℕ) (tasks w : ℕ) (kept : Arrays) (sound : Steppable fi
 
     -- the step at the task there, by whether the worker owns it
     step-at : (isOwner : Bool) → eqb (getD row 0 0) w ≡ isOwner
-        → step (settingIn file tasks) m w
+        → step (settingIn file version tasks) m w
         ≡ cond isOwner
-        (ownStep (settingIn file tasks) m w (taskOf row) (drop (m .places w .made) (ownSteps (taskOf row))))
-        (otherStep (settingIn file tasks) m w (taskOf row))
+        (ownStep (settingIn file version tasks) m w (taskOf row) (drop (m .places w .made) (ownSteps (taskOf row))))
+        (otherStep (settingIn file version tasks) m w (taskOf row))
     unfolding step stepFrom taskOf
     step-at isOwner t =
-        ap (stepFrom (settingIn file tasks) m w) here
+        ap (stepFrom (settingIn file version tasks) m w) here
         ∙ ap
         (λ (b : Bool).
         cond b
-        (ownStep (settingIn file tasks) m w (taskOf row) (drop (m .places w .made) (ownSteps (taskOf row))))
-        (otherStep (settingIn file tasks) m w (taskOf row)))
+        (ownStep (settingIn file version tasks) m w (taskOf row) (drop (m .places w .made) (ownSteps (taskOf row))))
+        (otherStep (settingIn file version tasks) m w (taskOf row)))
         t
 
     -- a task of another owner
     pub step-other : (private′ : List (List (List ℕ))) (next : List ℕ) → (getD row 0 0 ≡ w → ⊥)
         → private′ ≡ notedAll (kept .private) w (passed + 1) (taskOf row .accesses)
         → next ≡ numbersOf (passed + 1) 0 0
-        → StepDone file tasks w kept advanced (arrays (kept .cells) (kept .shared) private′ (set (kept .places) w next))
+        → StepDone file version tasks w kept advanced (arrays (kept .cells) (kept .shared) private′ (set (kept .places) w next))
     step-other private′ next other is next-is =
         let all = tasksIn file tasks in
         let accesses = taskOf row .accesses in
@@ -219,7 +219,7 @@ module _ (file : List ℕ) (tasks w : ℕ) (kept : Arrays) (sound : Steppable fi
             subst (λ (access : Access). access .cell < mostCells) (sym (access-there row j none inside)) (fits .access-cells j inside)
 
     -- its own task
-    pub step-own : (why : Outcome) (after : Arrays) → getD row 0 0 ≡ w → OwnStep row w kept why after → StepDone file tasks w kept why after
+    pub step-own : (why : Outcome) (after : Arrays) → getD row 0 0 ≡ w → OwnStep version row w kept why after → StepDone file version tasks w kept why after
     unfolding madeIn ownStep
     step-own why after owner own =
         record {
@@ -233,10 +233,10 @@ module _ (file : List ℕ) (tasks w : ℕ) (kept : Arrays) (sound : Steppable fi
           places-are = own .places-are ∙ ap (placesAfter why (kept .places) w) (goes-to true (eq-eqb (getD row 0 0) w owner));
           machine-is =
               own .machine-is all
-              ∙ ap (λ (to : Place). attempted (outcome m w try-here) m (withPlace (change effect (passed + 1) m w try-here) w to))
+              ∙ ap (λ (to : Place). attempted (outcome m w try-here) m (withPlace (change (effect version) (passed + 1) m w try-here) w to))
               (next-there row passed stage index all (drop (passed + 1) all) (fits .some-access) stands here
               ∙ ap (λ (made : ℕ). moved (taskOf row) (place passed made)) (sym made-is))
-              ∙ ap (ownStep (settingIn file tasks) m w (taskOf row))
+              ∙ ap (ownStep (settingIn file version tasks) m w (taskOf row))
               (sym (try-there row stage index stands) ∙ ap (λ (made : ℕ). drop made (ownSteps (taskOf row))) (sym made-is))
               ∙ sym (step-at true (eq-eqb (getD row 0 0) w owner));
         }

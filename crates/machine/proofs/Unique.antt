@@ -86,11 +86,11 @@ same-arrays tasks x y t t′ same places = λ i. arrays (same i .cells) (shared 
 -- ---- a step
 
 -- what an own step changes but for the place
-pub change-unique : (row : List ℕ) (w number stage index : ℕ) (before x y : Arrays) → Typed x → Typed y → x .places ≡ y .places
-    → Changed row w number stage index before x
-    → Changed row w number stage index before y
+pub change-unique : (version : ℕ) (row : List ℕ) (w number stage index : ℕ) (before x y : Arrays) → Typed x → Typed y → x .places ≡ y .places
+    → Changed version row w number stage index before x
+    → Changed version row w number stage index before y
     → x ≡ y
-change-unique row w number stage index before x y t t′ places p q = same-arrays [] x y t t′ (p .1 ∙ sym (q .1)) places
+change-unique version row w number stage index before x y t t′ places p q = same-arrays [] x y t t′ (p .1 ∙ sym (q .1)) places
 
 module _ (r s : Outcome) (r-after s-after : Arrays) (t : Typed r-after) (t′ : Typed s-after) where
   -- two outcomes with the same places before, and the same next place
@@ -106,14 +106,14 @@ module _ (r s : Outcome) (r-after s-after : Arrays) (t : Typed r-after) (t′ : 
             (p ∙ ap (λ (y : Rules.Outcome). placesAfter y places w next) why ∙ sym q),
       )
 
-  pub own-step-unique : (row : List ℕ) (w : ℕ) (before : Arrays) → OwnStep row w before (outcomeOf r) r-after
-      → OwnStep row w before (outcomeOf s) s-after
+  pub own-step-unique : (version : ℕ) (row : List ℕ) (w : ℕ) (before : Arrays) → OwnStep version row w before (outcomeOf r) r-after
+      → OwnStep version row w before (outcomeOf s) s-after
       → (r ≡ s) × (r-after ≡ s-after)
-  own-step-unique row w before p q =
+  own-step-unique version row w before p q =
       one-outcome [] (before .places) w _ (p .machine-is [] ∙ sym (q .machine-is [])) (p .places-are) (q .places-are)
 
-  pub step-unique : (file : List ℕ) (tasks w : ℕ) (before : Arrays) → StepDone file tasks w before (outcomeOf r) r-after
-      → StepDone file tasks w before (outcomeOf s) s-after
+  pub step-unique : (file : List ℕ) (version tasks w : ℕ) (before : Arrays) → StepDone file version tasks w before (outcomeOf r) r-after
+      → StepDone file version tasks w before (outcomeOf s) s-after
       → (r ≡ s) × (r-after ≡ s-after)
-  step-unique file tasks w before p q =
+  step-unique file version tasks w before p q =
       one-outcome (tasksIn file tasks) (before .places) w _ (p .machine-is ∙ sym (q .machine-is)) (p .places-are) (q .places-are)

@@ -52,6 +52,7 @@ fn held(
 
 // What an own step changes but for the place.
 fn change(
+    version: u32,
     row: &[u8],
     w: usize,
     number: u32,
@@ -63,14 +64,14 @@ fn change(
 )
     requires { ⌜ RowFits (now row) (length (now cells)) × Stands (now row) stage index × (w < mostWorkers) ⌝ }
     requires { ⌜ CountersFit (now shared) (now «private») ⌝ }
-    ensures { λ _. ⌜ Changed (now (row .entry)) w number stage index (arrays (now (cells .entry)) (now (shared .entry)) (now («private» .entry)) []) (arrays (now (cells .exit)) (now (shared .exit)) (now («private» .exit)) []) ⌝ }
+    ensures { λ _. ⌜ Changed version (now (row .entry)) w number stage index (arrays (now (cells .entry)) (now (shared .entry)) (now («private» .entry)) []) (arrays (now (cells .exit)) (now (shared .exit)) (now («private» .exit)) []) ⌝ }
 {
     if stage < 2 {
         return;
     }
     let at = octets::offset(index);
     if stage == 2 {
-        operate(row, at, cells);
+        operate(version, row, at, cells);
         return;
     }
     let cell = octets::index(row[4 + 2 * at]);
@@ -91,6 +92,7 @@ fn change(
 
 // The owner's next own step.
 fn own_step(
+    version: u32,
     row: &[u8],
     w: usize,
     cells: &mut [u32],
@@ -102,7 +104,7 @@ fn own_step(
     requires { ⌜ Stands (now row) (getD (getD (now places) w []) 1 0) (getD (getD (now places) w []) 2 0) ⌝ }
     requires { ⌜ getD (getD (now places) w []) 3 0 ≡ rowStart (getD (getD (now places) w []) 0 0 + 1) ⌝ }
     requires { ⌜ CountersFit (now shared) (now «private») ⌝ }
-    ensures { λ r. ⌜ OwnStep (now (row .entry)) w (arrays (now (cells .entry)) (now (shared .entry)) (now («private» .entry)) (now (places .entry))) (outcomeOf r) (arrays (now (cells .exit)) (now (shared .exit)) (now («private» .exit)) (now (places .exit))) ⌝ }
+    ensures { λ r. ⌜ OwnStep version (now (row .entry)) w (arrays (now (cells .entry)) (now (shared .entry)) (now («private» .entry)) (now (places .entry))) (outcomeOf r) (arrays (now (cells .exit)) (now (shared .exit)) (now («private» .exit)) (now (places .exit))) ⌝ }
 {
     let passed = places[w][0];
     let stage = places[w][1];
@@ -110,7 +112,17 @@ fn own_step(
     let from = places[w][3];
     let why = held(row, w, stage, index, shared, private);
     if let Outcome::Advanced = why {
-        change(row, w, passed + 1, stage, index, cells, shared, private);
+        change(
+            version,
+            row,
+            w,
+            passed + 1,
+            stage,
+            index,
+            cells,
+            shared,
+            private,
+        );
         places[w] = next(row, passed, stage, index, from);
     }
     why
@@ -119,6 +131,7 @@ fn own_step(
 // One step of a named worker.
 pub fn step(
     file: &[u8],
+    version: u32,
     tasks: u32,
     w: usize,
     cells: &mut [u32],
@@ -128,7 +141,7 @@ pub fn step(
 ) -> Outcome
     requires { ⌜ Steppable (now file) tasks (arrays (now cells) (now shared) (now «private») (now places)) × (w < mostWorkers) ⌝ }
     requires { ⌜ ReadsAtMost mostReads (machineOf (tasksIn (now file) tasks) (arrays (now cells) (now shared) (now «private») (now places))) ⌝ }
-    ensures { λ r. ⌜ StepDone (now (file .entry)) tasks w (arrays (now (cells .entry)) (now (shared .entry)) (now («private» .entry)) (now (places .entry))) (outcomeOf r) (arrays (now (cells .exit)) (now (shared .exit)) (now («private» .exit)) (now (places .exit))) ⌝ }
+    ensures { λ r. ⌜ StepDone (now (file .entry)) version tasks w (arrays (now (cells .entry)) (now (shared .entry)) (now («private» .entry)) (now (places .entry))) (outcomeOf r) (arrays (now (cells .exit)) (now (shared .exit)) (now («private» .exit)) (now (places .exit))) ⌝ }
 {
     let passed = places[w][0];
     if tasks <= passed {
@@ -141,5 +154,5 @@ pub fn step(
         places[w] = next_task(passed);
         return Outcome::Advanced;
     }
-    own_step(row, w, cells, shared, private, places)
+    own_step(version, row, w, cells, shared, private, places)
 }

@@ -14,20 +14,20 @@ use Rattle.file.proofs.Outcomes.{succeeds, same-answer, accepted, met-is, withi
 use Rattle.measure.specs.Promises.{measuredWith, MeasurePromise}
 use Rattle.measure.specs.declared.Measured.{Measured}
 
-abbrev pub measured : ℕ → ℕ → ℕ → ℕ → ℕ → ℕ → Measured
-measured number place tasks workers cells total =
-    record { number = number; place = place; tasks = tasks; workers = workers; cells = cells; total = total }
+abbrev pub measured : ℕ → ℕ → ℕ → ℕ → ℕ → ℕ → ℕ → Measured
+measured number place tasks workers cells total version =
+    record { number = number; place = place; tasks = tasks; workers = workers; cells = cells; total = total; version = version }
 
 -- the largest total in figures
 pub largest : largestTotal ≡ 5800
 largest = refl
 
 -- a refusal tells zeros
-measure-zeros : (met : Rules.Answer) (file : List ℕ) → (met .number ≡ 0 → ⊥) → measured (met .number) (met .place) 0 0 0 0 ≡ measuredWith met file
+measure-zeros : (met : Rules.Answer) (file : List ℕ) → (met .number ≡ 0 → ⊥) → measured (met .number) (met .place) 0 0 0 0 0 ≡ measuredWith met file
 measure-zeros met file some = rw (ne-eqb (met .number) 0 some)
 
 module _ {file : List ℕ} {met : CheckAnswer} (promised : CheckPromise file met) where
-  pub measure-refused : (met .number ≡ 0 → ⊥) → MeasurePromise file (measured (met .number) (met .place) 0 0 0 0)
+  pub measure-refused : (met .number ≡ 0 → ⊥) → MeasurePromise file (measured (met .number) (met .place) 0 0 0 0 0)
   measure-refused some =
       record {
         answer = measure-zeros (refusal (met .number) (met .place)) file some ∙ ap (λ (a : Rules.Answer). measuredWith a file) (same-answer promised);
@@ -36,15 +36,15 @@ module _ {file : List ℕ} {met : CheckAnswer} (promised : CheckPromise file met
         cells-fit = omega arith;
       }
 
-  -- an accepted file tells its sizes and its total
+  -- an accepted file tells its sizes, its total and its version
   pub measure-done : met .number ≡ 0 → (sum : ℕ) → sum ≡ totalOf (met .workers) (tasksIn file (met .tasks)) → sum ≤ mostOfTask * met .tasks
-      → MeasurePromise file (measured 0 0 (met .tasks) (met .workers) (met .cells) sum)
+      → MeasurePromise file (measured 0 0 (met .tasks) (met .workers) (met .cells) sum (met .version))
   measure-done none sum e most =
       let told = met-is promised none in
       let sum-is : sum ≡ total (flowOf file) = e ∙ ap₂ totalOf (workers-held promised none) (tasks-held promised none) in
       record {
         answer =
-            (λ i. measured 0 0 (told i .tasks) (told i .workers) (told i .cells) (sum-is i))
+            (λ i. measured 0 0 (told i .tasks) (told i .workers) (told i .cells) (sum-is i) (told i .version))
             ∙ ap (λ (a : Rules.Answer). measuredWith a file) (succeeds file (accepted promised none));
         total-fits = omega (arith, within promised none .tasks-fit);
         workers-fit = within promised none .workers-fit;

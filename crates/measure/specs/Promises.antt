@@ -1,10 +1,10 @@
--- What the measuring of a flow file promises: the check's answer, and the flow's total, zero with a refusal.
+-- What the measuring of a flow file promises: the check's answer, the flow's total and its version, zero with a refusal.
 use mathlib.Core.Path.{_≡_}
 use mathlib.Core.List.{List}
 use Prim.Native.Nat.{ℕ, _≤_}
 use Rattle.layout.specs.Flow.{mostWorkers, mostCells}
 use Rattle.layout.specs.Refusal as Rules
-use Rattle.layout.specs.File.{fileAnswer, flowOf, tasksOf, workersOf, cellsOf, told}
+use Rattle.layout.specs.File.{fileAnswer, flowOf, versionOf, tasksOf, workersOf, cellsOf, told}
 use Rattle.steps.specs.Run.{total, largestTotal}
 use Rattle.measure.specs.declared.Measured.{Measured}
 
@@ -18,6 +18,7 @@ measuredWith met file =
       workers = told met (workersOf file);
       cells = told met (cellsOf file);
       total = told met (total (flowOf file));
+      version = told met (versionOf file);
     }
 
 -- with the check's

@@ -1,4 +1,4 @@
-// The measuring of a flow file: its sizes and its total of advancing steps; and the schedule that names the workers in turn.
+// The measuring of a flow file: its sizes, its total of advancing steps and its version; and the schedule that names the workers in turn.
 mod turns;
 
 use flow::Flow;
@@ -13,7 +13,7 @@ ghost use Rattle.steps.specs.Run.{accessSteps, totalOf, mostOfTask};
 ghost use Rattle.arrays.specs.Arrays.{Ready};
 ghost use Rattle.measure.specs.Promises.{MeasurePromise};
 
-// What is measured: a refusal, or the flow's sizes and its total.
+// What is measured: a refusal, or the flow's sizes, its total and its version.
 pub struct Measured {
     pub number: u32,
     pub place: u32,
@@ -21,6 +21,7 @@ pub struct Measured {
     pub workers: u32,
     pub cells: u32,
     pub total: u32,
+    pub version: u32,
 }
 
 // The steps of a row's accesses: 2 for each read, 4 for each write. (The loop's bound is a constant, so that a compiler sees how few turns
@@ -63,7 +64,7 @@ fn tasks_total(file: &[u8], tasks: u32, workers: u32) -> u32
     total
 }
 
-// The check of a flow file and the flow's total, zero with a refusal.
+// The check of a flow file, the flow's total and its version, zero with a refusal.
 pub fn measure(file: &[u8]) -> Measured
     ensures { λ r. ⌜ MeasurePromise (now (file .entry)) r ⌝ }
 {
@@ -76,8 +77,10 @@ pub fn measure(file: &[u8]) -> Measured
             workers: 0,
             cells: 0,
             total: 0,
+            version: 0,
         };
     }
+    let version = block::version_of(file);
     let sizes = block::sizes_of(file);
     let total = tasks_total(file, sizes.tasks, sizes.workers);
     Measured {
@@ -87,5 +90,6 @@ pub fn measure(file: &[u8]) -> Measured
         workers: sizes.workers,
         cells: sizes.cells,
         total,
+        version,
     }
 }

@@ -45,6 +45,7 @@ readAll met =
       tasks = met .tasks;
       workers = met .workers;
       cells = met .cells;
+      version = met .version;
     }
 
 module _ {file : List ℕ} {met : CheckAnswer} (promised : CheckPromise file met) where

@@ -11,7 +11,7 @@ ghost use Rattle.layout.specs.File.{rowAt};
 ghost use Rattle.reader.specs.Answers.{readRefused};
 ghost use Rattle.reader.specs.Promises.{ReadPromise};
 
-// What the reader answers: a refusal, or the bytes written to the lent rows and the flow's sizes.
+// What the reader answers: a refusal, or the bytes written to the lent rows, the flow's sizes and its version.
 pub struct ReadAnswer {
     pub number: u32,
     pub place: u32,
@@ -19,10 +19,11 @@ pub struct ReadAnswer {
     pub tasks: u32,
     pub workers: u32,
     pub cells: u32,
+    pub version: u32,
 }
 
 impl ReadAnswer {
-    // A refusal reports zero counts.
+    // A refusal reports zero counts and no version.
     fn refused(number: u32, place: u32) -> ReadAnswer
         ensures { λ r. ⌜ r ≡ readRefused (refusal number place) ⌝ }
     {
@@ -33,6 +34,7 @@ impl ReadAnswer {
             tasks: 0,
             workers: 0,
             cells: 0,
+            version: 0,
         }
     }
 }
@@ -51,7 +53,7 @@ fn copy_rows(file: &[u8], rows: &mut [u8], tasks: u32)
     }
 }
 
-// Reads a file into lent rows: 0 with the bytes written and the flow's sizes, or a refusal that changes no byte.
+// Reads a file into lent rows: 0 with the bytes written, the flow's sizes and its version, or a refusal that changes no byte.
 pub fn read(file: &[u8], rows: &mut [u8]) -> ReadAnswer
     ensures { λ r. ⌜ ReadPromise (now (file .entry)) (now (rows .entry)) r (now (rows .exit)) ⌝ }
 {
@@ -71,5 +73,6 @@ pub fn read(file: &[u8], rows: &mut [u8]) -> ReadAnswer
         tasks: met.tasks,
         workers: met.workers,
         cells: met.cells,
+        version: met.version,
     }
 }

@@ -16,7 +16,7 @@ use Rattle.roundtrip.proofs.Pieces.{joined-same}
 use Rattle.roundtrip.proofs.Below.{bytes-part}
 use Rattle.roundtrip.proofs.Rows.{RowKept, row-keeps, row-back}
 use Rattle.roundtrip.proofs.Answers.{FileKept, file-keeps}
-use Rattle.roundtrip.proofs.Read.{file-sizes, row-sized, count-back, file-back}
+use Rattle.roundtrip.proofs.Read.{version-known, file-sizes, row-sized, count-back, file-back}
 
 -- ---- what the rules say of a row, said of its task
 
@@ -80,6 +80,7 @@ module _ (file : List ℕ) where
     unfolding flowOf
     flow-sound =
         record {
+          known = version-known file k;
           sizes = rw flow-length (file-sizes file k);
           each-task =
               λ i none l.

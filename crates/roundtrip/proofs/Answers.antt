@@ -1,6 +1,7 @@
 -- What an answer of success says, since it is given only where no refusal is met: to the file check, that rule 1 is kept, rules
--- 2 to 5 by every block and a row's rules by every row; to the writer's, that rules 15 and 4 are, and a row's rules by every row.
+-- 2 to 5 by every block and a row's rules by every row; to the writer's, that rules 15, 22 and 4 are, and a row's rules by every row.
 use mathlib.Core.Path.{_≡_, ap, _∙_}
+use mathlib.Core.Bool.{true}
 use mathlib.Core.List.{List}
 use Prim.Native.Nat.{ℕ, _+_, _%_, _<_, _≤_}
 use native.Mathlib.Nat.{zero-add, add-comm}
@@ -9,7 +10,7 @@ use borrow.Author.Tests.{eqb-true, eq-eqb, leb-true, le-leb}
 use lib.ListN.{length}
 use lib.Dec.{lit<}
 use Rattle.layout.specs.Refusal.{Answer, success, refusal, unless, orElse, firstAt}
-use Rattle.layout.specs.Flow.{mostBytes, mostRowBytes, inRange, WithinLimits}
+use Rattle.layout.specs.Flow.{knownVersion, mostBytes, mostRowBytes, inRange, WithinLimits}
 use Rattle.layout.specs.Row.{rowRefusal}
 use Rattle.layout.specs.File.{fileAnswer, lengthSound, blocksOf, tasksOf, blockNumber, rowNumber}
 use Rattle.layout.specs.Write.{rowsAnswer, rowsSound, rowCount, rowOfTask}
@@ -51,28 +52,31 @@ module _ (file : List ℕ) where
 
 -- ---- the writer's check of rows
 
-pub record RowsKept (rows : List ℕ) (workers cells : ℕ) : Type 0 where
+pub record RowsKept (rows : List ℕ) (version workers cells : ℕ) : Type 0 where
   pub some-byte : 1 ≤ length rows
   pub bytes-fit : length rows ≤ mostRowBytes
   pub whole-rows : length rows % 48 ≡ 0
+  pub known : knownVersion version ≡ true
   pub sizes : WithinLimits (rowCount rows) workers cells
   pub each-row : (i : ℕ) → i < rowCount rows → rowRefusal workers cells (rowOfTask rows (i + 1)) ≡ 0
 
-module _ (rows : List ℕ) (workers cells : ℕ) where
-  pub rows-keep : rowsAnswer rows workers cells .number ≡ 0 → RowsKept rows workers cells
+module _ (rows : List ℕ) (version workers cells : ℕ) where
+  pub rows-keep : rowsAnswer rows version workers cells .number ≡ 0 → RowsKept rows version workers cells
   unfolding rowsAnswer
   rows-keep h =
       let by-rows : Answer = firstAt (λ task. rowRefusal workers cells (rowOfTask rows task)) 1 (rowCount rows) in
+      let by-sizes : Answer = orElse (refusal (unless (inRange (rowCount rows) workers cells) 4) 0) by-rows in
       let start =
-      rule-then (rowsSound (length rows)) 15
-      (orElse (refusal (unless (inRange (rowCount rows) workers cells) 4) 0) by-rows) (lit< tt) h in
-      let then = rule-then (inRange (rowCount rows) workers cells) 4 by-rows (lit< tt) (start .1) in
+      rule-then (rowsSound (length rows)) 15 (orElse (refusal (unless (knownVersion version) 22) 0) by-sizes) (lit< tt) h in
+      let versioned = rule-then (knownVersion version) 22 by-sizes (lit< tt) (start .1) in
+      let then = rule-then (inRange (rowCount rows) workers cells) 4 by-rows (lit< tt) (versioned .1) in
       let sized = simp and-iff at (start .0) in
       let ranged = simp and-iff at (then .0) in
       record {
         some-byte = omega (arith, leb-true);
         bytes-fit = omega (arith, leb-true);
         whole-rows = omega (arith, eqb-true);
+        known = versioned .0;
         sizes = omega (arith, leb-true);
         each-row =
             λ i l.
@@ -80,10 +84,11 @@ module _ (rows : List ℕ) (workers cells : ℕ) where
             at (none-at (λ task. rowRefusal workers cells (rowOfTask rows task)) 1 (rowCount rows) (then .1) i l);
       }
 
-  pub keep-rows : RowsKept rows workers cells → rowsAnswer rows workers cells ≡ success
+  pub keep-rows : RowsKept rows version workers cells → rowsAnswer rows version workers cells ≡ success
   unfolding rowsAnswer
   keep-rows h =
       rule-passed (rowsSound (length rows)) 15 _ (simp and-iff (omega (arith, eq-eqb, le-leb)))
+      ∙ rule-passed (knownVersion version) 22 _ (h .known)
       ∙ rule-passed (inRange (rowCount rows) workers cells) 4 _ (simp and-iff (omega (arith, le-leb)))
       ∙ success-at (λ task. rowRefusal workers cells (rowOfTask rows task)) 1 (rowCount rows)
       (λ i l. rw (add-comm 1 i) (h .each-row i l))

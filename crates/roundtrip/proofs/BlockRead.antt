@@ -13,9 +13,9 @@ use Rattle.layout.specs.Block.{blocksFor, rowsIn, headOf, sealed}
 use Rattle.roundtrip.proofs.Parts.{part-bytes, padded-back, word-back}
 use Rattle.roundtrip.proofs.BlockRules.{BlockKept}
 
-module _ (blocks tasks workers cells index : ℕ) (block : List ℕ) (k : BlockKept blocks tasks workers cells index block)
+module _ (blocks version tasks workers cells index : ℕ) (block : List ℕ) (k : BlockKept blocks version tasks workers cells index block)
     (sized : length block ≡ 512) where
-  head-back : IsBytes block → take 16 block ≡ headOf tasks workers cells index
+  head-back : IsBytes block → take 16 block ≡ headOf version tasks workers cells index
   unfolding each IsBytes
   head-back bytes =
       let number = word-back (at block 6) (at block 7) index (bytes 6) (k .head .number) in
@@ -34,7 +34,7 @@ module _ (blocks tasks workers cells index : ℕ) (block : List ℕ) (k : BlockK
       sym (take-all 2 (drop 510 block) (rw (length-drop, sized) (omega arith))) ∙ part-bytes 2 510 block (omega arith) ∙ (cc)
 
   pub block-back : IsBytes block
-      → block ≡ sealed (headOf tasks workers cells index ++ padded 494 (take (48 * rowsIn tasks index) (drop 16 block)))
+      → block ≡ sealed (headOf version tasks workers cells index ++ padded 494 (take (48 * rowsIn tasks index) (drop 16 block)))
   block-back bytes =
       sym (take-append-drop 510 block) ∙ ap (λ (t : List ℕ). take 510 block ++ t) check-back
       ∙ ap sealed (take-add 16 494 block ∙ ap₂ _++_ (head-back bytes) rows-back)

@@ -7,7 +7,7 @@ use Prim.Native.Nat.{ℕ, _+_, _*_, _-_, _<_, _≤_}
 use native.Mathlib.Omega.{arith}
 use lib.ListN.{length, take, drop, replicate, length-append, length-replicate}
 use lib.Seq.{take-all, take-at, drop-at, getD-append-add}
-use Rattle.layout.specs.Flow.{WithinLimits}
+use Rattle.layout.specs.Flow.{knownVersion, WithinLimits}
 use Rattle.layout.specs.Bytes.{at, part, allZero, padded}
 use Rattle.layout.specs.Fletcher.{fletcher}
 use Rattle.layout.specs.Block.{blocksFor, rowsIn, headOf, bodyOf, sealed, blockOf}
@@ -61,36 +61,37 @@ module _ (head rows : List ℕ) (used : ℕ) (head-sized : length head ≡ 16) (
 
 -- ---- the block of rows keeps the rules
 
-module _ (tasks workers cells : ℕ) (rows : List ℕ) (index : ℕ) (fits : 480 * index + 48 * rowsIn tasks index ≤ length rows) where
+module _ (version tasks workers cells : ℕ) (rows : List ℕ) (index : ℕ) (fits : 480 * index + 48 * rowsIn tasks index ≤ length rows) where
   own-sized : length (take (48 * rowsIn tasks index) (drop (480 * index) rows)) ≡ 48 * rowsIn tasks index
   own-sized = part-length (480 * index) (48 * rowsIn tasks index) rows fits
 
-  own-length : length (bodyOf tasks workers cells rows index) ≡ 510
+  own-length : length (bodyOf version tasks workers cells rows index) ≡ 510
   unfolding bodyOf
-  own-length = body-length (headOf tasks workers cells index) _ (48 * rowsIn tasks index) refl own-sized (omega arith)
+  own-length = body-length (headOf version tasks workers cells index) _ (48 * rowsIn tasks index) refl own-sized (omega arith)
 
-  pub block-length : length (blockOf tasks workers cells rows index) ≡ 512
+  pub block-length : length (blockOf version tasks workers cells rows index) ≡ 512
   unfolding blockOf
   block-length = simp (length-append, own-length)
 
   -- a row of the block is the task's row among all rows
   pub block-row : (j : ℕ) → j < rowsIn tasks index
-      → take 48 (drop (16 + 48 * j) (blockOf tasks workers cells rows index)) ≡ take 48 (drop (480 * index + 48 * j) rows)
+      → take 48 (drop (16 + 48 * j) (blockOf version tasks workers cells rows index)) ≡ take 48 (drop (480 * index + 48 * j) rows)
   unfolding blockOf bodyOf
   block-row j l =
-      row-part (headOf tasks workers cells index) _ (48 * rowsIn tasks index) refl own-sized (omega arith) 48 (48 * j)
+      row-part (headOf version tasks workers cells index) _ (48 * rowsIn tasks index) refl own-sized (omega arith) 48 (48 * j)
       (omega arith)
       ∙ part-of-part 48 (48 * j) (48 * rowsIn tasks index) (480 * index) rows (omega arith)
 
-  pub block-kept : WithinLimits tasks workers cells
-      → BlockKept (blocksFor tasks) tasks workers cells index (blockOf tasks workers cells rows index)
+  pub block-kept : knownVersion version ≡ true → WithinLimits tasks workers cells
+      → BlockKept (blocksFor tasks) version tasks workers cells index (blockOf version tasks workers cells rows index)
   unfolding blockOf bodyOf
-  block-kept sizes =
+  block-kept known sizes =
       record {
-        check-a = sealed-a (bodyOf tasks workers cells rows index) own-length;
-        check-b = sealed-b (bodyOf tasks workers cells rows index) own-length;
+        check-a = sealed-a (bodyOf version tasks workers cells rows index) own-length;
+        check-b = sealed-b (bodyOf version tasks workers cells rows index) own-length;
         head = omega arith;
+        known = known;
         sizes = sizes;
         fewest = refl;
-        rest = rest-zero (headOf tasks workers cells index) _ (48 * rowsIn tasks index) refl own-sized (omega arith);
+        rest = rest-zero (headOf version tasks workers cells index) _ (48 * rowsIn tasks index) refl own-sized (omega arith);
       }

@@ -1,16 +1,17 @@
 -- An accepted file: the rules name every byte of a block but its rows, so the file is the file of its rows, and those are rows
 -- that the writer accepts.
 use mathlib.Core.Path.{_≡_, sym, ap, _∙_}
+use mathlib.Core.Bool.{true}
 use mathlib.Core.List.{List, _++_}
 use Prim.Native.Nat.{ℕ, _+_, _*_, _/_, _%_, _<_}
 use native.Mathlib.Omega.{arith}
 use lib.ListN.{length, take, drop}
 use lib.Seq.{take-all, drop-drop}
-use Rattle.layout.specs.Flow.{WithinLimits}
+use Rattle.layout.specs.Flow.{knownVersion, WithinLimits}
 use Rattle.layout.specs.Bytes.{IsBytes, padded}
 use Rattle.layout.specs.Refusal.{success}
 use Rattle.layout.specs.Block.{blocksFor, rowsIn, headOf, bodyOf, sealed, blockOf}
-use Rattle.layout.specs.File.{blockAt, rowStart, rowAt, blocksOf, tasksOf, workersOf, cellsOf, rowsOf}
+use Rattle.layout.specs.File.{blockAt, rowStart, rowAt, blocksOf, versionOf, tasksOf, workersOf, cellsOf, rowsOf}
 use Rattle.layout.specs.Write.{fileOf, rowCount, rowsAnswer}
 use Rattle.roundtrip.proofs.Parts.{part-length}
 use Rattle.roundtrip.proofs.Pieces.{joined-cut, joined-length, piece, same-pieces}
@@ -28,17 +29,20 @@ module _ (file : List ℕ) (k : FileKept file) where
   -- ---- its blocks
 
   kept-block : (i : ℕ) → i < blocksOf file
-      → BlockKept (blocksOf file) (tasksOf file) (workersOf file) (cellsOf file) i (blockAt file i)
-  kept-block i l = block-keeps (blocksOf file) (tasksOf file) (workersOf file) (cellsOf file) i (blockAt file i) (k .blocks i l)
+      → BlockKept (blocksOf file) (versionOf file) (tasksOf file) (workersOf file) (cellsOf file) i (blockAt file i)
+  kept-block i l = block-keeps (blocksOf file) (versionOf file) (tasksOf file) (workersOf file) (cellsOf file) i (blockAt file i) (k .blocks i l)
 
   block-sized : (i : ℕ) → i < blocksOf file → length (blockAt file i) ≡ 512
   block-sized i l = rw block-at (part-length (512 * i) 512 file (omega arith))
 
-  first : BlockKept (blocksOf file) (tasksOf file) (workersOf file) (cellsOf file) 0 (blockAt file 0)
+  first : BlockKept (blocksOf file) (versionOf file) (tasksOf file) (workersOf file) (cellsOf file) 0 (blockAt file 0)
   first = kept-block 0 (omega arith)
 
   pub fewest : blocksOf file ≡ blocksFor (tasksOf file)
   fewest = first .fewest
+
+  pub version-known : knownVersion (versionOf file) ≡ true
+  version-known = first .known
 
   pub file-sizes : WithinLimits (tasksOf file) (workersOf file) (cellsOf file)
   file-sizes = first .sizes
@@ -59,12 +63,13 @@ module _ (file : List ℕ) (k : FileKept file) where
   unfolding rowsOf
   row-there i l = piece 48 (tasksOf file) (rowAt file) (λ j. j + 1) row-sized i l
 
-  pub rows-accepted : rowsAnswer (rowsOf file) (workersOf file) (cellsOf file) ≡ success
-  rows-accepted = keep-rows (rowsOf file) (workersOf file) (cellsOf file)
+  pub rows-accepted : rowsAnswer (rowsOf file) (versionOf file) (workersOf file) (cellsOf file) ≡ success
+  rows-accepted = keep-rows (rowsOf file) (versionOf file) (workersOf file) (cellsOf file)
       record {
         some-byte = omega (arith, rows-length, file-sizes);
         bytes-fit = omega (arith, rows-length, file-sizes);
         whole-rows = omega (arith, rows-length);
+        known = version-known;
         sizes = rw count-back file-sizes;
         each-row =
             λ i l.
@@ -89,19 +94,19 @@ module _ (file : List ℕ) (k : FileKept file) where
   block-rows i l = same-pieces 48 (rowsIn (tasksOf file) i) _ _ (block-row i l)
 
   block-same : IsBytes file → (i : ℕ) → i < blocksOf file
-      → blockOf (tasksOf file) (workersOf file) (cellsOf file) (rowsOf file) i ≡ take 512 (drop (512 * i) file)
+      → blockOf (versionOf file) (tasksOf file) (workersOf file) (cellsOf file) (rowsOf file) i ≡ take 512 (drop (512 * i) file)
   unfolding blockOf bodyOf
   block-same bytes i l =
-      ap (λ (t : List ℕ). sealed (headOf (tasksOf file) (workersOf file) (cellsOf file) i ++ padded 494 t)) (block-rows i l)
+      ap (λ (t : List ℕ). sealed (headOf (versionOf file) (tasksOf file) (workersOf file) (cellsOf file) i ++ padded 494 t)) (block-rows i l)
       ∙ sym
-      (block-back (blocksOf file) (tasksOf file) (workersOf file) (cellsOf file) i (blockAt file i) (kept-block i l)
+      (block-back (blocksOf file) (versionOf file) (tasksOf file) (workersOf file) (cellsOf file) i (blockAt file i) (kept-block i l)
       (block-sized i l) (bytes-part (512 * i) (512 * i + 512) file bytes))
       ∙ block-at file i
 
-  pub file-back : IsBytes file → fileOf (rowCount (rowsOf file)) (workersOf file) (cellsOf file) (rowsOf file) ≡ file
+  pub file-back : IsBytes file → fileOf (versionOf file) (rowCount (rowsOf file)) (workersOf file) (cellsOf file) (rowsOf file) ≡ file
   unfolding fileOf
   file-back bytes =
       rw (count-back, ← fewest)
-      (joined-cut 512 (blocksOf file) file (blockOf (tasksOf file) (workersOf file) (cellsOf file) (rowsOf file)) (λ i. i)
+      (joined-cut 512 (blocksOf file) file (blockOf (versionOf file) (tasksOf file) (workersOf file) (cellsOf file) (rowsOf file)) (λ i. i)
       (block-same bytes)
       ∙ take-all (512 * blocksOf file) file (omega arith))

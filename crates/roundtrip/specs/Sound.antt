@@ -1,11 +1,11 @@
--- What holds of a flow that a file is accepted as (01, "What is built", and refusals 4, 6 to 11 and 17), said of the flow alone: no
+-- What holds of a flow that a file is accepted as (01, "What is built", and refusals 3, 4, 6 to 11 and 17), said of the flow alone: no
 -- byte is named.
 use mathlib.Core.Path.{_≡_}
 use mathlib.Core.Bool.{true}
 use Prim.Native.Nat.{ℕ, _<_, _≤_}
 use lib.ListN.{length, getD}
 use Rattle.layout.specs.Lists.{all}
-use Rattle.layout.specs.Flow.{Task, Flow, mostAccesses, mostOperations, WithinLimits}
+use Rattle.layout.specs.Flow.{Task, Flow, knownVersion, mostAccesses, mostOperations, WithinLimits}
 use Rattle.layout.specs.Row.{accessInRange, namedOnce, operationInRange, modesSound, writesMade}
 
 -- a task of a flow with so many workers and cells
@@ -21,6 +21,7 @@ pub record TaskSound (workers cells : ℕ) (task : Task) : Type 0 where
   pub writes-made : writesMade task ≡ true
 
 pub record Sound (flow : Flow) : Type 0 where
+  pub known : knownVersion (flow .version) ≡ true
   pub sizes : WithinLimits (length (flow .tasks)) (flow .workers) (flow .cells)
   -- the task at each index below their number, whatever stands for a task past the end
   pub each-task : (i : ℕ) (none : Task) → i < length (flow .tasks)

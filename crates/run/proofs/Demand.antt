@@ -78,11 +78,11 @@ module _ (file cells schedule : List ℕ) (r : RunAnswer) (after : List ℕ) (pr
   unfolding runAnswer
   plain-taken = both-zero (plainAnswer file cells) _ accepted .0
 
-  plain-leaves : (p : PlainAnswer) (p-after : List ℕ) → PlainPromise file cells p p-after → p-after ≡ afterTasks effect (flowOf file .tasks) cells
+  plain-leaves : (p : PlainAnswer) (p-after : List ℕ) → PlainPromise file cells p p-after → p-after ≡ afterTasks (effect (flowOf file .version)) (flowOf file .tasks) cells
   unfolding plainCells
   plain-leaves p p-after plain =
       plain .cells-after
-      ∙ ap (λ (k : ℕ). cond (eqb k 0) (afterTasks effect (flowOf file .tasks) cells) cells) plain-taken
+      ∙ ap (λ (k : ℕ). cond (eqb k 0) (afterTasks (effect (flowOf file .version)) (flowOf file .tasks) cells) cells) plain-taken
 
   pub is-finished : r .finished ≡ 1 → finished (flowOf file .workers) (flowOf file .tasks) (run (flowIn file) cells schedule .machine) ≡ true
   is-finished e = told-true _ (sym told-finished ∙ e)
@@ -135,7 +135,7 @@ run-demand file cells schedule r after promised taken =
       cells-are = stepped-cells file cells schedule r after promised taken;
       cells-made = stepped-cells file cells schedule r after promised taken ∙ history-leaves file cells schedule here;
       declared = three .declared;
-      touched = λ n. at-any-point file cells schedule here n .touched reads-only-a;
+      touched = λ n. at-any-point file cells schedule here n .touched (reads-only-a (flowOf file .version));
       in-order = three .in-order;
       progress =
           λ e room.

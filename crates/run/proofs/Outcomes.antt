@@ -27,7 +27,7 @@ use Rattle.file.specs.declared.CheckAnswer.{CheckAnswer}
 use Rattle.file.specs.Answers.{answerOf}
 use Rattle.file.specs.Promises.{CheckPromise}
 use Rattle.file.proofs.Order.{first-given}
-use Rattle.file.proofs.Outcomes.{file-kept, same-answer, accepted, tasks-held, workers-held, cells-held}
+use Rattle.file.proofs.Outcomes.{file-kept, same-answer, accepted, version-held, tasks-held, workers-held, cells-held}
 use Rattle.run.specs.declared.RunAnswer.{RunAnswer}
 use Rattle.run.specs.Promises.{plainIs, runIs, runRefused, PlainPromise, RunPromise, Walked}
 
@@ -40,7 +40,7 @@ plain-refused file cells met some e =
     record {
       answer = ap plainIs e;
       cells-after =
-          sym (ap (λ (b : Bool). cond b (afterTasks effect (flowOf file .tasks) cells) cells)
+          sym (ap (λ (b : Bool). cond b (afterTasks (effect (flowOf file .version)) (flowOf file .tasks) cells) cells)
           (ne-eqb (plainAnswer file cells .number) 0 (λ none. some (ap (λ (a : Rules.Answer). a .number) e ∙ none))));
     }
 
@@ -62,15 +62,15 @@ module _ {file : List ℕ} {met : CheckAnswer} (promised : CheckPromise file met
     pub cells-kept : length cells ≡ met .cells → success ≡ plainAnswer file cells
     cells-kept e = counted true (eq-eqb _ _ (e ∙ cells-held promised none))
 
-    pub plain-done : (after : List ℕ) → length cells ≡ met .cells → after ≡ afterTasks effect (tasksIn file (met .tasks)) cells
+    pub plain-done : (after : List ℕ) → length cells ≡ met .cells → after ≡ afterTasks (effect (met .version)) (tasksIn file (met .tasks)) cells
         → PlainPromise file cells (plainIs success) after
     unfolding plainCells
     plain-done after e is =
         record {
           answer = ap plainIs (cells-kept e);
           cells-after =
-              is ∙ ap (λ (tasks : List Task). afterTasks effect tasks cells) (tasks-held promised none)
-              ∙ ap (λ (a : Rules.Answer). cond (eqb (a .number) 0) (afterTasks effect (flowOf file .tasks) cells) cells) (cells-kept e);
+              is ∙ (λ i. afterTasks (effect (version-held promised none i)) (tasks-held promised none i) cells)
+              ∙ ap (λ (a : Rules.Answer). cond (eqb (a .number) 0) (afterTasks (effect (flowOf file .version)) (flowOf file .tasks) cells) cells) (cells-kept e);
         }
 
 -- ---- the stepped run
@@ -153,15 +153,16 @@ module _ {file : List ℕ} {met : CheckAnswer} (promised : CheckPromise file met
           (λ i h. sound .each-task i _ h .some-access) cells schedule
           (λ i h. subst (λ (n : ℕ). getD schedule i 0 < n) (workers-held promised none) (names i h))
 
-      pub run-done : (r : RunAnswer) (after : List ℕ) → Walked (tasksIn file (met .tasks)) (met .workers) cells schedule r after
+      pub run-done : (r : RunAnswer) (after : List ℕ) → Walked (met .version) (tasksIn file (met .tasks)) (met .workers) cells schedule r after
           → RunPromise file cells schedule r after
       unfolding runTold runHeld runCells
       run-done r after steps =
           let flow : Flow = flowOf file in
           let all-named : List Named = namedBy (settingOf flow) cells schedule in
-          let walked : Walked (flow .tasks) (flow .workers) cells schedule r after =
-          subst (λ (workers : ℕ). Walked (flow .tasks) workers cells schedule r after) (workers-held promised none)
-          (subst (λ (tasks : List Task). Walked tasks (met .workers) cells schedule r after) (tasks-held promised none) steps) in
+          let walked : Walked (flow .version) (flow .tasks) (flow .workers) cells schedule r after =
+          subst (λ (workers : ℕ). Walked (flow .version) (flow .tasks) workers cells schedule r after) (workers-held promised none)
+          (subst (λ (version : ℕ). Walked version (flow .tasks) (met .workers) cells schedule r after) (version-held promised none)
+          (subst (λ (tasks : List Task). Walked (met .version) tasks (met .workers) cells schedule r after) (tasks-held promised none) steps)) in
           record {
             answer =
                 walked .answer

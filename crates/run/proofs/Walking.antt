@@ -41,12 +41,12 @@ noCounters = replicate mostCells (replicate 2 0)
 abbrev freshArrays : List ℕ → Arrays
 freshArrays cells = arrays cells noCounters (replicate mostWorkers noCounters) (replicate mostWorkers (numbersOf 0 0 0))
 
-module _ (file : List ℕ) (tasks : ℕ) where
+module _ (file : List ℕ) (version tasks : ℕ) where
   abbrev held-in : List Task
   held-in = tasksIn file tasks
 
   abbrev s : Setting
-  s = settingIn file tasks
+  s = settingIn file version tasks
 
   fresh-is : (cells : List ℕ) → machineOf held-in (freshArrays cells) ≡ fresh 0 cells
   fresh-is cells = λ i.
@@ -159,7 +159,7 @@ module _ (file : List ℕ) (tasks : ℕ) where
     pub note-ready : (why : Rules.Outcome) → length schedule ≤ mostSchedule → countAt counts why < 4294967295
     note-ready why short = omega (arith, count-fits (walking .noted) why, walking .as-many)
 
-    pub stepped-on : (w : ℕ) → w ≡ getD schedule passed 0 → (after : Arrays) (why : Rules.Outcome) → StepDone file tasks w kept why after
+    pub stepped-on : (w : ℕ) → w ≡ getD schedule passed 0 → (after : Arrays) (why : Rules.Outcome) → StepDone file version tasks w kept why after
         → {counts′ reasons′ cells′ : List ℕ} → counts′ ≡ countedMore counts why
         → reasons′ ≡ keptFor reasons w why (reasonOf why)
         → cells′ ≡ keptFor cells w why (cellOf why)
@@ -176,7 +176,7 @@ module _ (file : List ℕ) (tasks : ℕ) where
           reads =
               subst (ReadsAtMost (mostAccesses * (passed + 1))) (sym (ap (λ (d : Stepped). d .machine) (done .machine-is)))
               (more-reads (mostAccesses * passed + mostAccesses) (mostAccesses * (passed + 1)) (step s m w .machine) (omega arith)
-              (file-step-reads (mostAccesses * passed) file tasks (length (kept .cells)) m w (walking .sound .ready) (walking .reads)));
+              (file-step-reads (mostAccesses * passed) file version tasks (length (kept .cells)) m w (walking .sound .ready) (walking .reads)));
           steps = walking .steps ++ named w why ∷ [];
           as-many = omega (arith, walking .as-many, length-append (walking .steps) (named w why ∷ []));
           noted = noted-more (walking .noted) w why counts′ reasons′ cells′ c r n;
@@ -214,7 +214,7 @@ module _ (file : List ℕ) (tasks : ℕ) where
 
       pub walk-ended : (workers done over : ℕ) → done ≡ doneTasks held-in (machineOf held-in (arrays [] [] [] (kept .places)))
           → over ≡ cond (all (λ w. leb tasks (getD (getD (kept .places) w []) 0 0)) (each workers (λ w. w))) 1 0
-          → Walked held-in workers start schedule
+          → Walked version held-in workers start schedule
           (record {
             number = 0;
             place = 0;

@@ -63,17 +63,17 @@ pub record RunPromise (file cells schedule : List ℕ) (r : RunAnswer) (after : 
   pub cells-after : after ≡ runCells file cells schedule
   pub bounded : r .advanced ≤ total (flowOf file)
 
--- what the steps of an accepted schedule give, from a fresh start
-pub record Walked (tasks : List Task) (workers : ℕ) (cells schedule : List ℕ) (r : RunAnswer) (after : List ℕ) : Type 0 where
+-- what the steps of an accepted schedule give in a flow of a version, from a fresh start
+pub record Walked (version : ℕ) (tasks : List Task) (workers : ℕ) (cells schedule : List ℕ) (r : RunAnswer) (after : List ℕ) : Type 0 where
   pub answer : r
       ≡ runIs
       (record {
         number = 0;
         place = 0;
-        advanced = run (settingFor tasks) cells schedule .advanced;
-        held = run (settingFor tasks) cells schedule .held;
-        done = doneTasks tasks (run (settingFor tasks) cells schedule .machine);
-        finished = cond (finished workers tasks (run (settingFor tasks) cells schedule .machine)) 1 0;
+        advanced = run (settingFor version tasks) cells schedule .advanced;
+        held = run (settingFor version tasks) cells schedule .held;
+        done = doneTasks tasks (run (settingFor version tasks) cells schedule .machine);
+        finished = cond (finished workers tasks (run (settingFor version tasks) cells schedule .machine)) 1 0;
       })
-      (heldOf success (namedBy (settingFor tasks) cells schedule))
-  pub cells-after : after ≡ run (settingFor tasks) cells schedule .machine .cells
+      (heldOf success (namedBy (settingFor version tasks) cells schedule))
+  pub cells-after : after ≡ run (settingFor version tasks) cells schedule .machine .cells

@@ -10,27 +10,27 @@ ghost use Rattle.arrays.specs.Arrays.{RowFits, Ready};
 ghost use Rattle.run.specs.Promises.{PlainPromise};
 
 // The operations of one task.
-fn plain_task(row: &[u8], cells: &mut [u32])
+fn plain_task(version: u32, row: &[u8], cells: &mut [u32])
     requires { ⌜ RowFits (now row) (length (now cells)) ⌝ }
-    ensures { λ _. ⌜ now (cells .exit) ≡ afterOperations effect (taskOf (now (row .entry)) .operations) (now (cells .entry)) ⌝ }
+    ensures { λ _. ⌜ now (cells .exit) ≡ afterOperations (effect version) (taskOf (now (row .entry)) .operations) (now (cells .entry)) ⌝ }
 {
     let count = octets::index(row[2]);
     let mut i = 0;
     while i < count {
-        effect::operate(row, i, cells);
+        effect::operate(version, row, i, cells);
         i += 1;
     }
 }
 
 // All tasks.
-fn plain_tasks(file: &[u8], tasks: u32, cells: &mut [u32])
+fn plain_tasks(file: &[u8], version: u32, tasks: u32, cells: &mut [u32])
     requires { ⌜ Ready (now file) tasks (length (now cells)) ⌝ }
-    ensures { λ _. ⌜ now (cells .exit) ≡ afterTasks effect (tasksIn (now (file .entry)) tasks) (now (cells .entry)) ⌝ }
+    ensures { λ _. ⌜ now (cells .exit) ≡ afterTasks (effect version) (tasksIn (now (file .entry)) tasks) (now (cells .entry)) ⌝ }
 {
     let mut done: u32 = 0;
     while done < tasks {
         let from = row::start(done + 1);
-        plain_task(&file[from..from + 48], cells);
+        plain_task(version, &file[from..from + 48], cells);
         done += 1;
     }
 }
@@ -52,7 +52,7 @@ pub fn plain(file: &[u8], cells: &mut [u32]) -> PlainAnswer
             place: 0,
         };
     }
-    plain_tasks(file, met.tasks, cells);
+    plain_tasks(file, met.version, met.tasks, cells);
     PlainAnswer {
         number: 0,
         place: 0,

@@ -40,10 +40,17 @@ fn schedule_met(schedule: &[u8], workers: u32) -> Answer
 }
 
 // The steps of a schedule, from a fresh start, and what is told of them.
-fn walk(file: &[u8], tasks: u32, workers: u32, cells: &mut [u32], schedule: &[u8]) -> RunAnswer
+fn walk(
+    file: &[u8],
+    version: u32,
+    tasks: u32,
+    workers: u32,
+    cells: &mut [u32],
+    schedule: &[u8],
+) -> RunAnswer
     requires { ⌜ Ready (now file) tasks (length (now cells)) × (workers ≤ mostWorkers) × (length (now schedule) ≤ mostSchedule) ⌝ }
     requires { ⌜ Names workers (now schedule) ⌝ }
-    ensures { λ r. ⌜ Walked (tasksIn (now (file .entry)) tasks) workers (now (cells .entry)) (now (schedule .entry)) r (now (cells .exit)) ⌝ }
+    ensures { λ r. ⌜ Walked version (tasksIn (now (file .entry)) tasks) workers (now (cells .entry)) (now (schedule .entry)) r (now (cells .exit)) ⌝ }
 {
     let mut shared = [[0u32; 2]; Flow::ROOM_FOR_CELLS];
     let mut private = [[[0u32; 2]; Flow::ROOM_FOR_CELLS]; Flow::ROOM_FOR_WORKERS];
@@ -57,6 +64,7 @@ fn walk(file: &[u8], tasks: u32, workers: u32, cells: &mut [u32], schedule: &[u8
         let w = octets::index(schedule[i]);
         let why = step(
             file,
+            version,
             tasks,
             w,
             cells,
@@ -104,5 +112,5 @@ pub fn run(file: &[u8], cells: &mut [u32], schedule: &[u8]) -> RunAnswer
     if named.number != 0 {
         return RunAnswer::refused(named.number, named.place);
     }
-    walk(file, met.tasks, met.workers, cells, schedule)
+    walk(file, met.version, met.tasks, met.workers, cells, schedule)
 }

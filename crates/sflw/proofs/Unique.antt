@@ -14,11 +14,11 @@ pub read-unique : (file rows : List ℕ) (r s : ℕ) (r-after r-words s-after s-
 read-unique file rows r s r-after r-words s-after s-words p q =
     (p .number-is ∙ sym (q .number-is), p .lent ∙ sym (q .lent), p .words-are ∙ sym (q .words-are))
 
-pub write-unique : (rows : List ℕ) (workers cells : ℕ) (out : List ℕ) (r s : ℕ) (r-after r-words s-after s-words : List ℕ)
-    → Written rows workers cells out r r-after r-words
-    → Written rows workers cells out s s-after s-words
+pub write-unique : (rows : List ℕ) (version workers cells : ℕ) (out : List ℕ) (r s : ℕ) (r-after r-words s-after s-words : List ℕ)
+    → Written rows version workers cells out r r-after r-words
+    → Written rows version workers cells out s s-after s-words
     → (r ≡ s) × (r-after ≡ s-after) × (r-words ≡ s-words)
-write-unique rows workers cells out r s r-after r-words s-after s-words p q =
+write-unique rows version workers cells out r s r-after r-words s-after s-words p q =
     (p .number-is ∙ sym (q .number-is), p .lent ∙ sym (q .lent), p .words-are ∙ sym (q .words-are))
 
 pub plain-unique : (file cells : List ℕ) (r s : ℕ) (r-after r-words s-after s-words : List ℕ) → Plain file cells r r-after r-words

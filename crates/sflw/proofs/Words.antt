@@ -19,8 +19,8 @@ checked p = record { number-is = ap (λ (a : Measured). a .number) (p .answer); 
 pub read : {file rows : List ℕ} {met : ReadAnswer} {after : List ℕ} → ReadPromise file rows met after → Read file rows (met .number) after (readWords met)
 read p = record { number-is = ap (λ (a : ReadAnswer). a .number) (p .answer); words-are = ap readWords (p .answer); lent = p .lent }
 
-pub written : {rows : List ℕ} {workers cells : ℕ} {out : List ℕ} {met : WriteAnswer} {after : List ℕ} → WritePromise rows workers cells out met after
-    → Written rows workers cells out (met .number) after (writeWords met)
+pub written : {rows : List ℕ} {version workers cells : ℕ} {out : List ℕ} {met : WriteAnswer} {after : List ℕ} → WritePromise rows version workers cells out met after
+    → Written rows version workers cells out (met .number) after (writeWords met)
 written p = record { number-is = ap (λ (a : WriteAnswer). a .number) (p .answer); words-are = ap writeWords (p .answer); lent = p .lent }
 
 pub plain : {file cells : List ℕ} {told : PlainAnswer} {after : List ℕ} → PlainPromise file cells told after → Plain file cells (told .number) after (plainWords told)

@@ -18,10 +18,10 @@ use Rattle.measure.specs.Promises.{measuredOf}
 -- ---- the words of each answer
 
 abbrev pub checkWords : Measured → List ℕ
-checkWords met = met .number ∷ met .place ∷ met .tasks ∷ met .workers ∷ met .cells ∷ met .total ∷ []
+checkWords met = met .number ∷ met .place ∷ met .tasks ∷ met .workers ∷ met .cells ∷ met .total ∷ met .version ∷ []
 
 abbrev pub readWords : ReadAnswer → List ℕ
-readWords met = met .number ∷ met .place ∷ met .bytes ∷ met .tasks ∷ met .workers ∷ met .cells ∷ []
+readWords met = met .number ∷ met .place ∷ met .bytes ∷ met .tasks ∷ met .workers ∷ met .cells ∷ met .version ∷ []
 
 abbrev pub writeWords : WriteAnswer → List ℕ
 writeWords met = met .number ∷ met .place ∷ met .bytes ∷ []
@@ -50,10 +50,10 @@ pub record Read (file rows : List ℕ) (r : ℕ) (after words : List ℕ) : Type
   pub words-are : words ≡ readWords (readIs file rows)
   pub lent : after ≡ rowsAfter file rows
 
-pub record Written (rows : List ℕ) (workers cells : ℕ) (out : List ℕ) (r : ℕ) (after words : List ℕ) : Type 0 where
-  pub number-is : r ≡ writeIs rows workers cells out .number
-  pub words-are : words ≡ writeWords (writeIs rows workers cells out)
-  pub lent : after ≡ outAfter rows workers cells out
+pub record Written (rows : List ℕ) (version workers cells : ℕ) (out : List ℕ) (r : ℕ) (after words : List ℕ) : Type 0 where
+  pub number-is : r ≡ writeIs rows version workers cells out .number
+  pub words-are : words ≡ writeWords (writeIs rows version workers cells out)
+  pub lent : after ≡ outAfter rows version workers cells out
 
 pub record Plain (file cells : List ℕ) (r : ℕ) (after words : List ℕ) : Type 0 where
   pub number-is : r ≡ plainAnswer file cells .number

@@ -3,9 +3,9 @@ use run::RunAnswer;
 ghost use mathlib.Core.Path.{_≡_};
 ghost use Rattle.sflw.specs.Words.{runWords, Checked, Read, Written, Plain, Ran};
 
-// Checks a flow file: its sizes and its total.
+// Checks a flow file: its sizes, its total and its version.
 #[no_mangle]
-pub extern "C" fn sflw_check(file: &[u8], answer: &mut [u32; 6]) -> u32
+pub extern "C" fn sflw_check(file: &[u8], answer: &mut [u32; 7]) -> u32
     ensures { λ r. ⌜ Checked (now (file .entry)) r (now (answer .exit)) ⌝ }
 {
     let met = measure::measure(file);
@@ -16,13 +16,14 @@ pub extern "C" fn sflw_check(file: &[u8], answer: &mut [u32; 6]) -> u32
         met.workers,
         met.cells,
         met.total,
+        met.version,
     ];
     met.number
 }
 
-// Reads the rows out of a flow file.
+// Reads the rows out of a flow file, and its sizes and its version.
 #[no_mangle]
-pub extern "C" fn sflw_read(file: &[u8], rows: &mut [u8], answer: &mut [u32; 6]) -> u32
+pub extern "C" fn sflw_read(file: &[u8], rows: &mut [u8], answer: &mut [u32; 7]) -> u32
     ensures { λ r. ⌜ Read (now (file .entry)) (now (rows .entry)) r (now (rows .exit)) (now (answer .exit)) ⌝ }
 {
     let met = reader::read(file, rows);
@@ -33,22 +34,24 @@ pub extern "C" fn sflw_read(file: &[u8], rows: &mut [u8], answer: &mut [u32; 6])
         met.tasks,
         met.workers,
         met.cells,
+        met.version,
     ];
     met.number
 }
 
-// Writes a flow file from rows.
+// Writes a flow file of a version from rows.
 #[no_mangle]
 pub extern "C" fn sflw_write(
     rows: &[u8],
+    version: u32,
     workers: u32,
     cells: u32,
     out: &mut [u8],
     answer: &mut [u32; 3],
 ) -> u32
-    ensures { λ r. ⌜ Written (now (rows .entry)) workers cells (now (out .entry)) r (now (out .exit)) (now (answer .exit)) ⌝ }
+    ensures { λ r. ⌜ Written (now (rows .entry)) version workers cells (now (out .entry)) r (now (out .exit)) (now (answer .exit)) ⌝ }
 {
-    let met = writer::write(rows, workers, cells, out);
+    let met = writer::write(rows, version, workers, cells, out);
     *answer = [met.number, met.place, met.bytes];
     met.number
 }

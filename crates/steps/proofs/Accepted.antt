@@ -54,21 +54,21 @@ keeps-of flow sound =
           };
     }
 
--- 01's operations read b but for code 1
-pub reads-only : ReadsOnlyB effect
+-- in a flow of any version, operations read b but for code 1
+pub reads-only : (version : ℕ) → ReadsOnlyB (effect version)
 unfolding becomes
-reads-only = record { but-b = λ o a b b′ h. sets o a b (not-false (eqb (o .code) 1) h) ∙ sym (sets o a b′ (not-false (eqb (o .code) 1) h)) }
+reads-only version = record { but-b = λ o a b b′ h. sets o a b (not-false (eqb (o .code) 1) h) ∙ sym (sets o a b′ (not-false (eqb (o .code) 1) h)) }
   where
-    sets : (o : Operation) (a b : ℕ) → eqb (o .code) 1 ≡ true → effect o a b ≡ o .k
+    sets : (o : Operation) (a b : ℕ) → eqb (o .code) 1 ≡ true → effect version o a b ≡ o .k
     sets o a b e = rw e
 
 -- and a for codes 3, 4 and 6
-pub reads-only-a : ReadsOnlyA effect
+pub reads-only-a : (version : ℕ) → ReadsOnlyA (effect version)
 unfolding becomes
-reads-only-a = record { but-a = λ o a a′ b h. without o a b h ∙ sym (without o a′ b h) }
+reads-only-a version = record { but-a = λ o a a′ b h. without o a b h ∙ sym (without o a′ b h) }
   where
     -- none of the three codes is the operation's
-    without : (o : Operation) (a b : ℕ) → readsA (o .code) ≡ false → effect o a b ≡ effect o 0 b
+    without : (o : Operation) (a b : ℕ) → readsA (o .code) ≡ false → effect version o a b ≡ effect version o 0 b
     without o a b h =
         let first = or-neither (eqb (o .code) 3 || eqb (o .code) 4) (eqb (o .code) 6) h in
         let second = or-neither (eqb (o .code) 3) (eqb (o .code) 4) (first .0) in
@@ -85,6 +85,6 @@ asked file cells schedule given =
       keep = subst (λ (n : ℕ). AllKeep (flowOf file .workers) n (flowOf file .tasks)) (sym (given .start)) (keeps-of (flowOf file) sound);
       modes = λ i l. sound .each-task i noTask l .modes-kept;
       apart = record { apart = λ i j a b e. e };
-      reads = reads-only;
+      reads = reads-only (flowOf file .version);
       names = given .names;
     }

@@ -41,5 +41,6 @@ pub mod Theorems
 pub mod Total
 pub mod Touching
 pub mod Values
+pub mod Versions
 pub mod Waiting
 pub mod Written

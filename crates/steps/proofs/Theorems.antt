@@ -43,7 +43,7 @@ module _ (file cells schedule : List ℕ) (given : Given file cells schedule) wh
   -- and, said of the cells: a step that makes one changes no cell but one that its task declares written, to what follows from the cells that its
   -- task declares readable at that point; a step that makes none changes no cell
   pub only-touched : OnlyTouched flow (run flow cells schedule .machine)
-  only-touched = holds .touched reads-only-a
+  only-touched = holds .touched (reads-only-a (flowOf file .version))
 
   -- b. where two tasks name one cell and at least one declares it written, no operation of the later stands in the history before all of the earlier
   pub in-order : InOrder flow (history flow cells schedule)

@@ -191,6 +191,6 @@ write-made file cells schedule given writer cell some listed only =
     let all = asked file cells schedule given in
     record {
       is-written = record { index = at .0; is-operation = at .1; writes = at .2 };
-      own-work = own-work (flow .does) reads-only-a (all .reads) task cell (sound .modes-kept) only made;
+      own-work = own-work (flow .does) (reads-only-a (flowOf file .version)) (all .reads) task cell (sound .modes-kept) only made;
       found-as-left = found-as-left flow (flowOf file .workers) cells schedule all writer cell some listed;
     }

@@ -32,7 +32,8 @@ plainAnswer file cells = orElse (fileAnswer file) (refusal (unless (startSound (
 
 -- the lent cells after it
 unfoldable pub plainCells : List ℕ → List ℕ → List ℕ
-plainCells file cells = cond (eqb (plainAnswer file cells .number) 0) (afterTasks effect (flowOf file .tasks) cells) cells
+plainCells file cells =
+    cond (eqb (plainAnswer file cells .number) 0) (afterTasks (effect (flowOf file .version)) (flowOf file .tasks) cells) cells
 
 -- ---- the stepped run: "A run then has 12, 13, 14"
 

@@ -1,5 +1,5 @@
 -- Flow A on the bench (01, "A flow on the bench"): its file, byte for byte, and the cases P1 to P10 as a table of what is got and what
--- is expected, with why steps were held in them (02, Q-1). `proofs/Bench.antt` proves the table under a single statement.
+-- is expected, with why steps were held in them (02, Q-1) and operation 5 in both versions (02, Q-8). `proofs/Bench.antt` proves the table under a single statement.
 use mathlib.Core.List.{List, [], _∷_, _++_}
 use Prim.Native.Nat.{ℕ}
 use lib.ListN.{replicate}
@@ -70,7 +70,7 @@ readThenWritten =
     ∷ []
 
 unfoldable pub heldByReads : List ℕ → List ℕ
-heldByReads schedule = heldNumbers (heldOf success (namedBy (settingFor readThenWritten) (0 ∷ 0 ∷ []) schedule))
+heldByReads schedule = heldNumbers (heldOf success (namedBy (settingFor 1 readThenWritten) (0 ∷ 0 ∷ []) schedule))
 
 -- what is told of the two workers, before those that the flow does not have
 unfoldable pub latest : List ℕ → List ℕ → List ℕ
@@ -84,9 +84,9 @@ postedOn schedule = ran flowA start schedule .machine .shared 0 .lastWrite
 unfoldable pub sumsOf : List ℕ → List ℕ
 sumsOf bytes = fletcher bytes .a ∷ fletcher bytes .b ∷ []
 
--- cells 0 and 1 after an operation that writes 0 and reads 1
-unfoldable pub madeOn : ℕ → ℕ → ℕ → List ℕ
-madeOn code a b = operated effect (record { code = code; a = 0; b = 1; k = 0 }) (a ∷ b ∷ [])
+-- cells 0 and 1 after an operation that writes 0 and reads 1, in a flow of a version
+unfoldable pub madeOn : ℕ → ℕ → ℕ → ℕ → List ℕ
+madeOn version code a b = operated (effect version) (record { code = code; a = 0; b = 1; k = 0 }) (a ∷ b ∷ [])
 
 -- ---- the table
 
@@ -142,7 +142,11 @@ bench =
     ∷ gives (sumsOf (255 ∷ [])) (0 ∷ 0 ∷ [])
     ∷ gives (sumsOf (97 ∷ 98 ∷ 99 ∷ 100 ∷ 101 ∷ [])) (240 ∷ 200 ∷ [])
     -- P10
-    ∷ gives (madeOn 3 4294967295 1) (0 ∷ 1 ∷ [])
-    ∷ gives (madeOn 4 0 1) (4294967295 ∷ 1 ∷ [])
-    ∷ gives (madeOn 5 4294967295 74565) (17699 ∷ 74565 ∷ [])
+    ∷ gives (madeOn 1 3 4294967295 1) (0 ∷ 1 ∷ [])
+    ∷ gives (madeOn 1 4 0 1) (4294967295 ∷ 1 ∷ [])
+    ∷ gives (madeOn 1 5 4294967295 74565) (17699 ∷ 74565 ∷ [])
+    -- P10 in version 2 (02, Q-8): "74565 gives 83235; in version 1 it stays 17699"
+    ∷ gives (madeOn 2 3 4294967295 1) (0 ∷ 1 ∷ [])
+    ∷ gives (madeOn 2 4 0 1) (4294967295 ∷ 1 ∷ [])
+    ∷ gives (madeOn 2 5 4294967295 74565) (83235 ∷ 74565 ∷ [])
     ∷ []

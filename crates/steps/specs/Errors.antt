@@ -41,7 +41,7 @@ doubles owner = task owner (access 0 3 ∷ []) (operation 3 0 0 0 ∷ [])
 -- ---- the table
 
 abbrev pub smallFlow : List Task → Flow
-smallFlow tasks = record { workers = 2; cells = 2; tasks = tasks }
+smallFlow tasks = record { version = 1; workers = 2; cells = 2; tasks = tasks }
 
 abbrev pub zeros : List ℕ
 zeros = 0 ∷ 0 ∷ []
@@ -51,7 +51,7 @@ unfoldable pub endsWell : List Task → List ℕ → Case
 endsWell tasks schedule =
     let after : Run = run (settingOf (smallFlow tasks)) zeros schedule in
     gives (cond (finished 2 tasks (after .machine)) 1 0 ∷ after .advanced ∷ after .machine .cells)
-    (1 ∷ total (smallFlow tasks) ∷ afterTasks effect tasks zeros)
+    (1 ∷ total (smallFlow tasks) ∷ afterTasks (effect 1) tasks zeros)
 
 unfoldable pub errors : List Case
 errors =

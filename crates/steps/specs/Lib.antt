@@ -1,5 +1,5 @@
--- The rules of 01 for running a flow, and the words and statements of demand 3. Each module opens with what it defines and with the part
--- of 01 that it stands for.
+-- The rules of 01 and 02 for running a flow, and the words and statements of demand 3. Each module opens with what it defines and with the
+-- part of 01 or 02 that it stands for.
 pub mod Operations
 pub mod Plain
 pub mod Machine
@@ -18,3 +18,4 @@ pub mod Demand
 pub mod Auditor
 pub mod Waiting
 pub mod Longest
+pub mod Versions

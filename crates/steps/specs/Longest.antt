@@ -26,7 +26,7 @@ longTask owner =
 
 -- so many of them, with so many workers
 unfoldable pub longFlow : ℕ → ℕ → Flow
-longFlow workers many = record { workers = workers; cells = 4; tasks = each many (λ i. longTask (workers - 1)) }
+longFlow workers many = record { version = 1; workers = workers; cells = 4; tasks = each many (λ i. longTask (workers - 1)) }
 
 -- two workers that read a cell, one task each
 abbrev pub reader : ℕ → Task
@@ -59,7 +59,7 @@ longestOf workers many = figures (longFlow workers many) (0 ∷ 0 ∷ 0 ∷ 0 �
 
 -- the reason for which a worker's step is held after a schedule, 0 where it advances
 unfoldable pub heldAfter : ℕ → List ℕ → ℕ
-heldAfter w schedule = reasonOf (step (settingFor twoReaders) (run (settingFor twoReaders) (0 ∷ []) schedule .machine) w .outcome)
+heldAfter w schedule = reasonOf (step (settingFor 1 twoReaders) (run (settingFor 1 twoReaders) (0 ∷ []) schedule .machine) w .outcome)
 
 -- ---- the table
 

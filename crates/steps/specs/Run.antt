@@ -39,12 +39,12 @@ run s cells schedule = runFrom s (record { machine = fresh (s .number 0) cells; 
 abbrev pub Names : ℕ → List ℕ → Type 0
 Names workers schedule = (i : ℕ) → i < length schedule → getD schedule i 0 < workers
 
--- tasks are numbered "from 1 in list order", and operations do what 01 says
-abbrev pub settingFor : List Task → Setting
-settingFor tasks = record { tasks = tasks; number = λ t. t; does = effect }
+-- tasks are numbered "from 1 in list order", and operations do what 01 and 02 say in a flow of the version
+abbrev pub settingFor : ℕ → List Task → Setting
+settingFor version tasks = record { tasks = tasks; number = λ t. t; does = effect version }
 
 abbrev pub settingOf : Flow → Setting
-settingOf flow = settingFor (flow .tasks)
+settingOf flow = settingFor (flow .version) (flow .tasks)
 
 -- ---- what is told of a run
 

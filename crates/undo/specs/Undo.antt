@@ -16,8 +16,8 @@ use Rattle.writer.specs.Promises.{WritePromise}
 
 -- ---- what the second call gives
 
--- a read gives these rows, workers and cells
-pub record ReadGives (rows : List ℕ) (workers cells : ℕ) (lent : List ℕ) (r : ReadAnswer) (lent-after : List ℕ) : Type 0 where
+-- a read gives these rows, this version, workers and cells
+pub record ReadGives (rows : List ℕ) (version workers cells : ℕ) (lent : List ℕ) (r : ReadAnswer) (lent-after : List ℕ) : Type 0 where
   -- it is no refusal
   pub number-is : r .number ≡ 0
   pub place-is : r .place ≡ 0
@@ -25,7 +25,8 @@ pub record ReadGives (rows : List ℕ) (workers cells : ℕ) (lent : List ℕ) (
   pub bytes-are : r .bytes ≡ length rows
   pub tasks-are : r .tasks ≡ rowCount rows
   pub whole-rows : 48 * r .tasks ≡ length rows
-  -- the workers and the cells are these
+  -- the version, the workers and the cells are these
+  pub version-is : r .version ≡ version
   pub workers-are : r .workers ≡ workers
   pub cells-are : r .cells ≡ cells
   -- the rows stand first in the lent rows, and the rest stays
@@ -45,12 +46,12 @@ pub record WriteGives (file out : List ℕ) (w : WriteAnswer) (out-after : List 
 
 -- ---- 1. The reader after the writer
 
--- after a write of rows, workers and cells that is no refusal: the bytes written are the first `w .bytes` of the lent output
-pub record ReaderAfterWriter (rows : List ℕ) (workers cells : ℕ) (w : WriteAnswer) (out-after : List ℕ) : Type 0 where
-  -- whoever reads them, into any lent rows that are long enough, has the rows, the workers and the cells again
+-- after a write of rows, a version, workers and cells that is no refusal: the bytes written are the first `w .bytes` of the lent output
+pub record ReaderAfterWriter (rows : List ℕ) (version workers cells : ℕ) (w : WriteAnswer) (out-after : List ℕ) : Type 0 where
+  -- whoever reads them, into any lent rows that are long enough, has the rows, the version, the workers and the cells again
   pub comes-back : (lent : List ℕ) (r : ReadAnswer) (lent-after : List ℕ) → length rows ≤ length lent
       → ReadPromise (take (w .bytes) out-after) lent r lent-after
-      → ReadGives rows workers cells lent r lent-after
+      → ReadGives rows version workers cells lent r lent-after
   -- into shorter ones: 16, place 0, zero counts, and no lent byte changed
   pub too-short : (lent : List ℕ) (r : ReadAnswer) (lent-after : List ℕ) → length lent < length rows
       → ReadPromise (take (w .bytes) out-after) lent r lent-after
@@ -60,11 +61,11 @@ pub record ReaderAfterWriter (rows : List ℕ) (workers cells : ℕ) (w : WriteA
 
 -- after a read of a file that is no refusal: the rows read are the first `r .bytes` of the lent rows
 pub record WriterAfterReader (file : List ℕ) (r : ReadAnswer) (lent-after : List ℕ) : Type 0 where
-  -- whoever writes them, with the workers and the cells that were answered, into any lent output that is long enough, has the file again
+  -- whoever writes them, with the version, the workers and the cells that were answered, into any lent output that is long enough, has the file again
   pub comes-back : (out : List ℕ) (w : WriteAnswer) (out-after : List ℕ) → length file ≤ length out
-      → WritePromise (take (r .bytes) lent-after) (r .workers) (r .cells) out w out-after
+      → WritePromise (take (r .bytes) lent-after) (r .version) (r .workers) (r .cells) out w out-after
       → WriteGives file out w out-after
   -- into a shorter one: 16, place 0, zero bytes, and no lent byte changed
   pub too-short : (out : List ℕ) (w : WriteAnswer) (out-after : List ℕ) → length out < length file
-      → WritePromise (take (r .bytes) lent-after) (r .workers) (r .cells) out w out-after
+      → WritePromise (take (r .bytes) lent-after) (r .version) (r .workers) (r .cells) out w out-after
       → (w ≡ writeRefused (refusal 16 0)) × (out-after ≡ out)

@@ -7,6 +7,6 @@ use lib.ListN.{length}
 use Rattle.layout.specs.Block.{blocksFor, blockOf}
 use Rattle.roundtrip.proofs.BlockWritten.{block-length}
 
-pub block-long : (tasks workers cells : ℕ) (rows : List ℕ) (i : ℕ) → length rows ≡ 48 * tasks → i < blocksFor tasks
-    → length (blockOf tasks workers cells rows i) ≡ 512
-block-long tasks workers cells rows i e l = block-length tasks workers cells rows i (omega arith)
+pub block-long : (version tasks workers cells : ℕ) (rows : List ℕ) (i : ℕ) → length rows ≡ 48 * tasks → i < blocksFor tasks
+    → length (blockOf version tasks workers cells rows i) ≡ 512
+block-long version tasks workers cells rows i e l = block-length version tasks workers cells rows i (omega arith)

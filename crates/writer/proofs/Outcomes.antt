@@ -12,7 +12,7 @@ use Rattle.layout.specs.Refusal.{success, refusal}
 use Rattle.layout.specs.Block.{blocksFor, blockOf}
 use Rattle.layout.specs.File.{lentAfter}
 use Rattle.layout.specs.Write.{rowCount, fileOf, rowsAnswer, writeAnswer}
-use Rattle.layout.proofs.Blocks.{in-range}
+use Rattle.layout.proofs.Blocks.{version-byte, in-range}
 use Rattle.flow.specs.declared.Flow.{Flow}
 use Rattle.flow.proofs.Answers.{MadeAs}
 use Rattle.file.specs.declared.Answer.{Answer}
@@ -33,16 +33,16 @@ module _ (met : Rules.Answer) (some : met .number ≡ 0 → ⊥) where
   write-zeros : (rows : List ℕ) → writeRefused met ≡ writeWith met rows
   write-zeros rows = rw (ne-eqb (met .number) 0 some)
 
-  pub write-refused : (rows : List ℕ) (workers cells : ℕ) (out : List ℕ) (r : WriteAnswer)
-      → met ≡ writeAnswer rows workers cells (length out)
+  pub write-refused : (rows : List ℕ) (version workers cells : ℕ) (out : List ℕ) (r : WriteAnswer)
+      → met ≡ writeAnswer rows version workers cells (length out)
       → r ≡ writeRefused met
-      → WritePromise rows workers cells out r out
-  write-refused rows workers cells out r e is =
+      → WritePromise rows version workers cells out r out
+  write-refused rows version workers cells out r e is =
       record {
         answer = is ∙ write-zeros rows ∙ ap (λ (a : Rules.Answer). writeWith a rows) e;
         lent =
-            lent-kept met some (fileOf (rowCount rows) workers cells rows) out
-            ∙ ap (λ (a : Rules.Answer). lentAfter a (fileOf (rowCount rows) workers cells rows) out) e;
+            lent-kept met some (fileOf version (rowCount rows) workers cells rows) out
+            ∙ ap (λ (a : Rules.Answer). lentAfter a (fileOf version (rowCount rows) workers cells rows) out) e;
       }
 
 -- ---- what the writer has of the flow
@@ -52,61 +52,62 @@ abbrev pub writeAll : ℕ → WriteAnswer
 writeAll blocks = record { number = 0; place = 0; bytes = 512 * blocks }
 
 -- the flow is made of given rows, which are whole rows
-pub record FlowMade (rows : List ℕ) (tasks workers cells : ℕ) (flow : Flow) : Type 0 where
+pub record FlowMade (rows : List ℕ) (version tasks workers cells : ℕ) (flow : Flow) : Type 0 where
   pub whole : WholePieces 48 mostRowBytes (length rows) tasks
-  pub made : MadeAs flow tasks workers cells
+  pub made : MadeAs flow version tasks workers cells
 
 pub record FlowFits (rows : List ℕ) (flow : Flow) : Type 0 where
   pub is-whole : length rows ≡ 48 * flow .tasks
+  pub version-fits : flow .version < 256
   pub tasks-fit : flow .tasks ≤ mostTasks
   pub workers-fit : flow .workers ≤ mostWorkers
   pub cells-fit : flow .cells ≤ mostCells
 
-module _ {rows : List ℕ} {tasks workers cells : ℕ} {flow : Flow} (f : FlowMade rows tasks workers cells flow) where
+module _ {rows : List ℕ} {version tasks workers cells : ℕ} {flow : Flow} (f : FlowMade rows version tasks workers cells flow) where
   pub flow-fits : FlowFits rows flow
-  flow-fits = omega (arith, f, in-range tasks workers cells (f .made .range))
+  flow-fits = omega (arith, f, version-byte version (f .made .known), in-range tasks workers cells (f .made .range))
 
   tasks-counted : flow .tasks ≡ rowCount rows
   tasks-counted = f .made .tasks-is ∙ f .whole .count-is
 
   module _ {met : Answer} (found : met ≡ answerOf (fromGiven rows (flow .tasks) (flow .workers) (flow .cells))) where
-    same-given : refusal (met .number) (met .place) ≡ rowsAnswer rows workers cells
+    same-given : refusal (met .number) (met .place) ≡ rowsAnswer rows version workers cells
     same-given =
         ap (λ (a : Answer). refusal (a .number) (a .place)) found
         ∙ (λ i. fromGiven rows (f .made .tasks-is i) (f .made .workers-is i) (f .made .cells-is i))
-        ∙ given-answers rows tasks workers cells (f .whole) (f .made .range)
+        ∙ given-answers rows version tasks workers cells (f .whole) (f .made .known) (f .made .range)
 
     pub given-refused : (room : ℕ) → (met .number ≡ 0 → ⊥)
-        → refusal (met .number) (met .place) ≡ writeAnswer rows workers cells room
+        → refusal (met .number) (met .place) ≡ writeAnswer rows version workers cells room
     unfolding writeAnswer
-    given-refused room some = first-given (refusal (met .number) (met .place)) (rowsAnswer rows workers cells) _ same-given some
+    given-refused room some = first-given (refusal (met .number) (met .place)) (rowsAnswer rows version workers cells) _ same-given some
 
     module _ (none : met .number ≡ 0) where
-      given-kept : rowsAnswer rows workers cells .number ≡ 0
+      given-kept : rowsAnswer rows version workers cells .number ≡ 0
       given-kept = sym (ap (λ (a : Rules.Answer). a .number) same-given) ∙ none
 
-      pub write-short : (room : ℕ) → room < 512 * blocksFor (flow .tasks) → refusal 16 0 ≡ writeAnswer rows workers cells room
+      pub write-short : (room : ℕ) → room < 512 * blocksFor (flow .tasks) → refusal 16 0 ≡ writeAnswer rows version workers cells room
       unfolding writeAnswer
       write-short room h =
-          too-short (rowsAnswer rows workers cells) given-kept (512 * blocksFor (rowCount rows)) room (rw tasks-counted at h)
+          too-short (rowsAnswer rows version workers cells) given-kept (512 * blocksFor (rowCount rows)) room (rw tasks-counted at h)
 
       pub write-done : (out after : List ℕ) (blocks : ℕ) → blocks ≡ blocksFor (flow .tasks) → 512 * blocks ≤ length out
-          → after ≡ fileOf (flow .tasks) (flow .workers) (flow .cells) rows ++ drop (512 * blocksFor (flow .tasks)) out
-          → WritePromise rows workers cells out (writeAll blocks) after
+          → after ≡ fileOf (flow .version) (flow .tasks) (flow .workers) (flow .cells) rows ++ drop (512 * blocksFor (flow .tasks)) out
+          → WritePromise rows version workers cells out (writeAll blocks) after
       unfolding writeAnswer fileOf
       write-done out after blocks b room e =
           let blocks-are : blocks ≡ blocksFor (rowCount rows) = b ∙ ap blocksFor tasks-counted in
-          let done : success ≡ writeAnswer rows workers cells (length out) =
-          long-enough (rowsAnswer rows workers cells) given-kept (512 * blocksFor (rowCount rows)) (length out)
+          let done : success ≡ writeAnswer rows version workers cells (length out) =
+          long-enough (rowsAnswer rows version workers cells) given-kept (512 * blocksFor (rowCount rows)) (length out)
           (rw blocks-are at room) in
           record {
             answer = ap writeAll blocks-are ∙ ap (λ (a : Rules.Answer). writeWith a rows) done;
             lent =
                 e
                 ∙ (λ i.
-                laid 512 (blockOf (tasks-counted i) (f .made .workers-is i) (f .made .cells-is i) rows) (λ index. index) out
+                laid 512 (blockOf (f .made .version-is i) (tasks-counted i) (f .made .workers-is i) (f .made .cells-is i) rows) (λ index. index) out
                 (blocksFor (tasks-counted i)))
-                ∙ laid-is 512 (blockOf (rowCount rows) workers cells rows) (λ index. index) out (blocksFor (rowCount rows))
-                (λ i l. block-long (rowCount rows) workers cells rows i (omega (arith, f .whole)) l)
-                ∙ ap (λ (a : Rules.Answer). lentAfter a (fileOf (rowCount rows) workers cells rows) out) done;
+                ∙ laid-is 512 (blockOf version (rowCount rows) workers cells rows) (λ index. index) out (blocksFor (rowCount rows))
+                (λ i l. block-long version (rowCount rows) workers cells rows i (omega (arith, f .whole)) l)
+                ∙ ap (λ (a : Rules.Answer). lentAfter a (fileOf version (rowCount rows) workers cells rows) out) done;
           }

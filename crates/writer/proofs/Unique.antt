@@ -6,8 +6,8 @@ use Prim.Native.Nat.{ℕ}
 use Rattle.writer.specs.declared.WriteAnswer.{WriteAnswer}
 use Rattle.writer.specs.Promises.{WritePromise}
 
-pub write-unique : (rows : List ℕ) (workers cells : ℕ) (out : List ℕ) (r s : WriteAnswer) (r-after s-after : List ℕ)
-    → WritePromise rows workers cells out r r-after
-    → WritePromise rows workers cells out s s-after
+pub write-unique : (rows : List ℕ) (version workers cells : ℕ) (out : List ℕ) (r s : WriteAnswer) (r-after s-after : List ℕ)
+    → WritePromise rows version workers cells out r r-after
+    → WritePromise rows version workers cells out s s-after
     → (r ≡ s) × (r-after ≡ s-after)
-write-unique rows workers cells out r s r-after s-after p q = (p .answer ∙ sym (q .answer), p .lent ∙ sym (q .lent))
+write-unique rows version workers cells out r s r-after s-after p q = (p .answer ∙ sym (q .answer), p .lent ∙ sym (q .lent))

@@ -19,10 +19,10 @@ writeWith met rows =
     record { number = met .number; place = met .place; bytes = told met (512 * blocksFor (rowCount rows)) }
 
 -- the writer's answer
-abbrev pub writeIs : List ℕ → ℕ → ℕ → List ℕ → WriteAnswer
-writeIs rows workers cells out = writeWith (writeAnswer rows workers cells (length out)) rows
+abbrev pub writeIs : List ℕ → ℕ → ℕ → ℕ → List ℕ → WriteAnswer
+writeIs rows version workers cells out = writeWith (writeAnswer rows version workers cells (length out)) rows
 
 -- the lent output after the call
-abbrev pub outAfter : List ℕ → ℕ → ℕ → List ℕ → List ℕ
-outAfter rows workers cells out =
-    lentAfter (writeAnswer rows workers cells (length out)) (fileOf (rowCount rows) workers cells rows) out
+abbrev pub outAfter : List ℕ → ℕ → ℕ → ℕ → List ℕ → List ℕ
+outAfter rows version workers cells out =
+    lentAfter (writeAnswer rows version workers cells (length out)) (fileOf version (rowCount rows) workers cells rows) out

@@ -5,6 +5,6 @@ use Prim.Native.Nat.{ℕ}
 use Rattle.writer.specs.declared.WriteAnswer.{WriteAnswer}
 use Rattle.writer.specs.Answers.{writeIs, outAfter}
 
-pub record WritePromise (rows : List ℕ) (workers cells : ℕ) (out : List ℕ) (r : WriteAnswer) (after : List ℕ) : Type 0 where
-  pub answer : r ≡ writeIs rows workers cells out
-  pub lent : after ≡ outAfter rows workers cells out
+pub record WritePromise (rows : List ℕ) (version workers cells : ℕ) (out : List ℕ) (r : WriteAnswer) (after : List ℕ) : Type 0 where
+  pub answer : r ≡ writeIs rows version workers cells out
+  pub lent : after ≡ outAfter rows version workers cells out

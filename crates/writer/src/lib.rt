@@ -1,4 +1,4 @@
-// The writer: rows, workers and cells into a file. Each block is filled in its own part of the lent output. It takes every input, and
+// The writer: rows, a version, workers and cells into a file. Each block is filled in its own part of the lent output. It takes every input, and
 // answers with 01's number and place.
 use file::Answer;
 use flow::Flow;
@@ -79,7 +79,8 @@ fn given_met(rows: &[u8], flow: Flow) -> Answer
 // Fills the blocks of a flow, each in the part of the output from 512 times its number.
 fn fill_blocks(rows: &[u8], out: &mut [u8], flow: Flow)
     requires { ⌜ (length (now rows) ≡ 48 * flow .tasks) × (flow .tasks ≤ mostTasks) × (flow .workers ≤ mostWorkers) × (flow .cells ≤ mostCells) × (512 * blocksFor (flow .tasks) ≤ length (now out)) ⌝ }
-    ensures { λ _. ⌜ now (out .exit) ≡ fileOf (flow .tasks) (flow .workers) (flow .cells) (now (rows .entry)) ++ drop (512 * blocksFor (flow .tasks)) (now (out .entry)) ⌝ }
+    requires { ⌜ flow .version < 256 ⌝ }
+    ensures { λ _. ⌜ now (out .exit) ≡ fileOf (flow .version) (flow .tasks) (flow .workers) (flow .cells) (now (rows .entry)) ++ drop (512 * blocksFor (flow .tasks)) (now (out .entry)) ⌝ }
 {
     let blocks = flow::blocks_for(flow.tasks);
     let mut index: u32 = 0;
@@ -90,16 +91,18 @@ fn fill_blocks(rows: &[u8], out: &mut [u8], flow: Flow)
     }
 }
 
-// Writes rows, workers and cells as a file: 0 with the bytes written, or a refusal that changes no byte.
-pub fn write(rows: &[u8], workers: u32, cells: u32, out: &mut [u8]) -> WriteAnswer
-    ensures { λ r. ⌜ WritePromise (now (rows .entry)) workers cells (now (out .entry)) r (now (out .exit)) ⌝ }
+// Writes rows, a version, workers and cells as a file: 0 with the bytes written, or a refusal that changes no byte.
+pub fn write(rows: &[u8], version: u32, workers: u32, cells: u32, out: &mut [u8]) -> WriteAnswer
+    ensures { λ r. ⌜ WritePromise (now (rows .entry)) version workers cells (now (out .entry)) r (now (out .exit)) ⌝ }
 {
     let tasks = whole_rows(rows.len());
     if tasks == 0 {
         return WriteAnswer::refused(15, 0);
     }
-    let Made::Within(flow) = Flow::new(tasks, workers, cells) else {
-        return WriteAnswer::refused(4, 0);
+    let flow = match Flow::new(version, tasks, workers, cells) {
+        Made::Within(flow) => flow,
+        Made::OtherVersion => return WriteAnswer::refused(22, 0),
+        Made::Outside => return WriteAnswer::refused(4, 0),
     };
     let met = given_met(rows, flow);
     if met.number != 0 {

@@ -34,7 +34,7 @@ returns-4 c =
 
 returns-5 : tie.Need-returns-5
 unfolding becomes
-returns-5 c = rw (c .match .keys5)
+returns-5 c = rw (c .before .match .keys5) (c .swap .ensures)
 
 returns-6 : tie.Need-returns-6
 unfolding becomes
@@ -62,5 +62,5 @@ pub value-spec : {M : Type 1} → statement M
 value-spec =
     tie.close
     (tie.spec
-    (λ c κs. search needs) (λ c κs. search needs) (λ c. search needs) (λ c. search needs) returns returns-2
+    (λ c κs. search needs) (λ c κs. search needs) (λ c κs. search needs) returns returns-2
     returns-3 returns-4 returns-5 returns-6 returns-7 returns-8)

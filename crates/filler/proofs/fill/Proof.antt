@@ -19,6 +19,7 @@ returns c =
     let from = placed .offset in
     let more = ended .offset2 in
     filled
+    (a .flow .version)
     (a .flow .tasks)
     (a .flow .workers)
     (a .flow .cells)

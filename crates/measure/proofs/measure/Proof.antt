@@ -26,12 +26,18 @@ from-else c = c .before .before .before .before
 accepted : (c : tie.Else1) → fileAnswer (from-else c .args .file .now) .number ≡ 0
 accepted c = sym (ap (λ (a : Answer). a .number) (c .before .before .first-refusal .ensures)) ∙ c .if1 .left
 
+version-of-requires : tie.Need-version-of-requires
+version-of-requires c κs = some-block _ (accepted c)
+
 sizes-of-requires : tie.Need-sizes-of-requires
-sizes-of-requires c κs = some-block _ (accepted c)
+sizes-of-requires c κs = some-block _ (accepted (c .before))
 
 -- and has what the check promises
-promised : (c : tie.After-sizes-of) → CheckPromise (from-else (c .before) .args .file .now) (checkAll (c .sizes-of .result))
-promised c = check-done _ (accepted (c .before)) (c .sizes-of .result) (c .sizes-of .ensures .0)
+promised : (c : tie.After-sizes-of)
+    → CheckPromise (from-else (c .before .before) .args .file .now) (checkAll (c .before .version-of .result) (c .sizes-of .result))
+promised c =
+    let version = c .before .version-of in
+    check-done _ (accepted (c .before .before)) (version .result) (c .sizes-of .result) (version .ensures) (c .sizes-of .ensures .0)
 
 tasks-total-requires : tie.Need-tasks-total-requires
 tasks-total-requires c κs =
@@ -41,4 +47,4 @@ returns-2 : tie.Need-returns-2
 returns-2 c = measure-done (promised (c .before)) refl _ (c .tasks-total .ensures .0) (c .tasks-total .ensures .1)
 
 pub measure-spec : {M : Type 1} → statement M
-measure-spec = tie.close (tie.spec (λ c κs. search needs) returns sizes-of-requires tasks-total-requires returns-2)
+measure-spec = tie.close (tie.spec (λ c κs. search needs) returns version-of-requires sizes-of-requires tasks-total-requires returns-2)

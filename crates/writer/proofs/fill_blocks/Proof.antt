@@ -14,7 +14,7 @@ use Rattle.writer.proofs.fill_blocks.Tie as tie
 abbrev Inv-loop : tie.InvT-loop
 Inv-loop rows out₀ flow blocks index₀ out index =
     (index ≤ blocks) × (length out ≡ length out₀)
-    × (out ≡ laid 512 (blockOf (flow .tasks) (flow .workers) (flow .cells) rows) (λ i. i) out₀ index)
+    × (out ≡ laid 512 (blockOf (flow .version) (flow .tasks) (flow .workers) (flow .cells) rows) (λ i. i) out₀ index)
 
 abbrev μ-loop : tie.MeasureT-loop
 μ-loop rows out₀ flow blocks index₀ out index = blocks - index
@@ -24,7 +24,7 @@ loop-holds c =
     let a = c .before .before .before .args in (
       search needs,
       search needs,
-      laid-none 512 (blockOf (a .flow .tasks) (a .flow .workers) (a .flow .cells) (a .rows .now)) (λ i. i) (a .out .now),
+      laid-none 512 (blockOf (a .flow .version) (a .flow .tasks) (a .flow .workers) (a .flow .cells) (a .rows .now)) (λ i. i) (a .out .now),
     )
 
 loop-again : tie.Need-loop-again Inv-loop μ-loop
@@ -37,9 +37,9 @@ loop-again c =
     let from = placed .offset in (
       search needs,
       search needs,
-      laid-more 512 (blockOf (a .flow .tasks) (a .flow .workers) (a .flow .cells) (a .rows .now)) (λ i. i) (a .out .now)
+      laid-more 512 (blockOf (a .flow .version) (a .flow .tasks) (a .flow .workers) (a .flow .cells) (a .rows .now)) (λ i. i) (a .out .now)
           (l .index) (from .result) (l .out) (filled .fill .last .0)
-          (λ i m. block-long (a .flow .tasks) (a .flow .workers) (a .flow .cells) (a .rows .now) i (search needs) (search needs))
+          (λ i m. block-long (a .flow .version) (a .flow .tasks) (a .flow .workers) (a .flow .cells) (a .rows .now) i (search needs) (search needs))
           (l .inv .2)
           (from .ensures)
           (filled .fill .ensures),
@@ -54,7 +54,7 @@ returns c =
     let a = c .before .before .before .before .before .args in
     let all : c .before .loop .index ≡ blocksFor (a .flow .tasks) = search needs in
     c .before .loop .inv .2
-    ∙ ap (laid 512 (blockOf (a .flow .tasks) (a .flow .workers) (a .flow .cells) (a .rows .now)) (λ i. i) (a .out .now)) all
+    ∙ ap (laid 512 (blockOf (a .flow .version) (a .flow .tasks) (a .flow .workers) (a .flow .cells) (a .rows .now)) (λ i. i) (a .out .now)) all
 
 pub fill-blocks-spec : {M : Type 1} → statement M
 fill-blocks-spec =

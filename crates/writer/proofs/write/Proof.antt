@@ -7,9 +7,9 @@ use lib.ListN.{length}
 use Rattle.layout.specs.Flow.{mostRowBytes}
 use Rattle.layout.specs.Refusal.{refusal}
 use Rattle.flow.specs.Made.{statedBy}
-use Rattle.flow.proofs.Answers.{within-is, outside-is}
+use Rattle.flow.proofs.Answers.{within-is, other-version-is, outside-is}
 use Rattle.file.proofs.Whole.{WholePieces, unsound, is-sound}
-use Rattle.writer.proofs.Order.{rows-refused, sizes-refused}
+use Rattle.writer.proofs.Order.{rows-refused, version-refused, sizes-refused}
 use Rattle.writer.proofs.Outcomes.{write-refused, FlowMade, flow-fits, given-refused, write-short, write-done}
 use Rattle.writer.proofs.write.Statement.{statement}
 use Rattle.writer.proofs.write.Tie as tie
@@ -37,8 +37,8 @@ returns : tie.Need-returns
 returns c =
     let counted = c .before .before in
     let bytes = length (counted .before .before .before .args .rows .now) in
-    write-refused (refusal 15 0) (omega arith) _ _ _ _ _
-    (rows-refused _ _ _ _ (unsound 48 mostRowBytes bytes _ (counted .whole-rows .ensures) (c .before .if1 .taken)))
+    write-refused (refusal 15 0) (omega arith) _ _ _ _ _ _
+    (rows-refused _ _ _ _ _ (unsound 48 mostRowBytes bytes _ (counted .whole-rows .ensures) (c .before .if1 .taken)))
     (c .refused .ensures)
 
 -- from here on, the rows are whole rows
@@ -53,15 +53,29 @@ returns-2 c =
     let asked = c .before .before .before in
     let a = from-whole (asked .before) .args in
     let tasks = asked .before .before .whole-rows .result in
-    write-refused (refusal 4 0) (omega arith) _ _ _ _ _
-    (sizes-refused _ _ _ _ (whole (asked .before)) _
-    (outside-is tasks (a .workers) (a .cells) (ap statedBy (sym (c .before .enum-told .given .1)) ∙ asked .new .ensures)))
+    write-refused (refusal 22 0) (omega arith) _ _ _ _ _ _
+    (version-refused _ (a .version) _ _ _ (whole (asked .before)) _
+    (other-version-is (a .version) tasks (a .workers) (a .cells) (ap statedBy (sym (c .before .enum-told .given .1)) ∙ asked .new .ensures)))
     (c .refused2 .ensures)
 
--- and from here on, there is a flow of the sizes asked for
+enum-told-2 : tie.Need-enum-told-2
+enum-told-2 c = search needs
+
+returns-3 : tie.Need-returns-3
+returns-3 c =
+    let asked = c .before .before .before in
+    let a = from-whole (asked .before) .args in
+    let tasks = asked .before .before .whole-rows .result in
+    let outside = outside-is (a .version) tasks (a .workers) (a .cells) (ap statedBy (sym (c .before .enum-told2 .given .1)) ∙ asked .new .ensures) in
+    write-refused (refusal 4 0) (omega arith) _ _ _ _ _ _
+    (sizes-refused _ _ _ _ _ (whole (asked .before)) (outside .0) _ (outside .1))
+    (c .refused3 .ensures)
+
+-- and from here on, there is a flow of the version and the sizes asked for
 known : (c : tie.After-flow)
     → FlowMade
     (from-whole (whole-at c) .args .rows .now)
+    (from-whole (whole-at c) .args .version)
     (whole-at c .before .whole-rows .result)
     (from-whole (whole-at c) .args .workers)
     (from-whole (whole-at c) .args .cells)
@@ -69,18 +83,18 @@ known : (c : tie.After-flow)
 known c =
     record {
       whole = whole (whole-at c);
-      made = within-is _ _ _ _ (ap statedBy (sym (c .flow .given .1)) ∙ c .before .before .new .ensures);
+      made = within-is _ _ _ _ _ (ap statedBy (sym (c .flow .given .1)) ∙ c .before .before .new .ensures);
     }
 
 given-met-requires : tie.Need-given-met-requires
 given-met-requires c κs = omega (arith, flow-fits (known (c .before)))
 
-returns-3 : tie.Need-returns-3
-returns-3 c =
+returns-4 : tie.Need-returns-4
+returns-4 c =
     let met = c .before .before .before in
-    write-refused _ (c .before .if2 .taken) _ _ _ _ _
+    write-refused _ (c .before .if2 .taken) _ _ _ _ _ _
     (given-refused (known (met .before .before)) (met .given-met .ensures) _ (c .before .if2 .taken))
-    (c .refused3 .ensures)
+    (c .refused4 .ensures)
 
 blocks-for-requires : tie.Need-blocks-for-requires
 blocks-for-requires c κs = omega (arith, flow-fits (known (made-at c)))
@@ -88,22 +102,22 @@ blocks-for-requires c κs = omega (arith, flow-fits (known (made-at c)))
 mul-bytes : tie.Need-mul-bytes
 mul-bytes c = omega (arith, flow-fits (known (made-at (c .before))))
 
-returns-4 : tie.Need-returns-4
-returns-4 c =
+returns-5 : tie.Need-returns-5
+returns-5 c =
     let kept = kept-at (c .before .before) in
     let made = made-at kept in
-    write-refused (refusal 16 0) (omega arith) _ _ _ _ _
+    write-refused (refusal 16 0) (omega arith) _ _ _ _ _ _
     (write-short (known made) (kept .before .before .given-met .ensures) (kept .if2 .left)
     (length (from-whole (whole-at made) .args .out .now)) (omega arith))
-    (c .refused4 .ensures)
+    (c .refused5 .ensures)
 
 fill-blocks-requires : tie.Need-fill-blocks-requires
 fill-blocks-requires c κs =
     let fits = flow-fits (known (made-at (kept-at (c .before .before)))) in
-    (fits .is-whole, fits .tasks-fit, fits .workers-fit, fits .cells-fit, omega arith)
+    ((fits .is-whole, fits .tasks-fit, fits .workers-fit, fits .cells-fit, omega arith), fits .version-fits)
 
-returns-5 : tie.Need-returns-5
-returns-5 c =
+returns-6 : tie.Need-returns-6
+returns-6 c =
     let filled = c .before .before in
     let sized = filled .before .before .before in
     let kept = kept-at sized in
@@ -120,6 +134,6 @@ write-spec =
     tie.close
     (tie.spec
     (λ c κs. search needs) (λ c κs. search needs) returns (λ c κs. search needs) (λ c. search needs)
-    enum-told (λ c κs. search needs) returns-2 given-met-requires (λ c κs. search needs) returns-3
-    blocks-for-requires mul-bytes (λ c κs. search needs) (λ c κs. search needs) returns-4
-    fill-blocks-requires (λ c. search needs) returns-5)
+    enum-told (λ c κs. search needs) returns-2 enum-told-2 (λ c κs. search needs) returns-3 given-met-requires
+    (λ c κs. search needs) returns-4 blocks-for-requires mul-bytes (λ c κs. search needs) (λ c κs. search needs)
+    returns-5 fill-blocks-requires (λ c. search needs) returns-6)

@@ -11,15 +11,15 @@ use Rattle.file.proofs.checking.blocks_met.Statement.{statement}
 use Rattle.file.proofs.checking.blocks_met.Tie as tie
 
 -- the first of 2 to 5 that the block at an index breaks
-abbrev number : List ℕ → ℕ → Sizes → ℕ → ℕ
-number file blocks first index =
-    blockRefusal blocks (first .tasks) (first .workers) (first .cells) index (blockAt file index)
+abbrev number : List ℕ → ℕ → ℕ → Sizes → ℕ → ℕ
+number file blocks version first index =
+    blockRefusal blocks version (first .tasks) (first .workers) (first .cells) index (blockAt file index)
 
 abbrev Inv-loop : tie.InvT-loop
-Inv-loop file blocks first index₀ index = Left (number file blocks first) 0 blocks index
+Inv-loop file blocks version first index₀ index = Left (number file blocks version first) 0 blocks index
 
 abbrev μ-loop : tie.MeasureT-loop
-μ-loop file blocks first index₀ index = blocks - index
+μ-loop file blocks version first index₀ index = blocks - index
 
 loop-holds : tie.Need-loop-holds Inv-loop μ-loop
 loop-holds c = begun _ 0 _

@@ -18,12 +18,17 @@ returns c =
 accepted : (c : tie.Else1) → fileAnswer (c .before .before .before .before .args .file .now) .number ≡ 0
 accepted c = sym (ap (λ (a : Answer). a .number) (c .before .before .first-refusal .ensures)) ∙ c .if1 .left
 
+version-of-requires : tie.Need-version-of-requires
+version-of-requires c κs = some-block _ (accepted c)
+
 sizes-of-requires : tie.Need-sizes-of-requires
-sizes-of-requires c κs = some-block _ (accepted c)
+sizes-of-requires c κs = some-block _ (accepted (c .before))
 
 returns-2 : tie.Need-returns-2
-returns-2 c = check-done _ (accepted (c .before)) (c .sizes-of .result) (c .sizes-of .ensures .0)
+returns-2 c =
+    let version = c .before .version-of in
+    check-done _ (accepted (c .before .before)) (version .result) (c .sizes-of .result) (version .ensures) (c .sizes-of .ensures .0)
 
 pub check-spec : {M : Type 1} → statement M
 check-spec =
-    tie.close (tie.spec (λ c κs. search needs) (λ c κs. search needs) returns sizes-of-requires returns-2)
+    tie.close (tie.spec (λ c κs. search needs) (λ c κs. search needs) returns version-of-requires sizes-of-requires returns-2)

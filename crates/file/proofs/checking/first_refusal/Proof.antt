@@ -21,17 +21,26 @@ returns c =
 whole : (c : tie.Else1) → WholePieces 512 mostBytes (length (c .before .before .before .args .file .now)) (c .before .whole-blocks .result)
 whole c = is-sound 512 mostBytes _ _ (c .before .whole-blocks .ensures) (c .if1 .left)
 
+version-of-requires : tie.Need-version-of-requires
+version-of-requires c κs = omega (arith, whole c)
+
 sizes-of-requires : tie.Need-sizes-of-requires
-sizes-of-requires c κs = omega (arith, whole c)
+sizes-of-requires c κs = omega (arith, whole (c .before))
 
 blocks-met-requires : tie.Need-blocks-met-requires
-blocks-met-requires c κs = omega (arith, whole (c .before))
+blocks-met-requires c κs = omega (arith, whole (c .before .before))
 
 -- and this is known once the blocks are checked
 known : (c : tie.After-blocks-met)
-    → BlocksMet (c .before .before .before .before .before .args .file .now) (c .before .before .before .whole-blocks .result)
-    (c .before .sizes-of .result) (c .blocks-met .result)
-known c = record { whole = whole (c .before .before); stated = c .before .sizes-of .ensures .0; found = c .blocks-met .ensures }
+    → BlocksMet (c .before .before .before .before .before .before .args .file .now) (c .before .before .before .before .whole-blocks .result)
+    (c .before .before .version-of .result) (c .before .sizes-of .result) (c .blocks-met .result)
+known c =
+    record {
+      whole = whole (c .before .before .before);
+      version-is = c .before .before .version-of .ensures;
+      stated = c .before .sizes-of .ensures .0;
+      found = c .blocks-met .ensures;
+    }
 
 returns-2 : tie.Need-returns-2
 returns-2 c = block-refused (known (c .before .before)) (c .if2 .taken)
@@ -46,5 +55,5 @@ pub first-refusal-spec : {M : Type 1} → statement M
 first-refusal-spec =
     tie.close
     (tie.spec
-    (λ c κs. search needs) returns sizes-of-requires blocks-met-requires returns-2 rows-met-requires
+    (λ c κs. search needs) returns version-of-requires sizes-of-requires blocks-met-requires returns-2 rows-met-requires
     returns-3)

@@ -22,7 +22,7 @@ returns : tie.Need-returns
 returns c =
     let start = c .before .before .before in
     let a = start .args in
-    waited (a .row .now) (a .w) (a .number) (a .index) (lent start) (start .pre .1 .0) (a .stage) (c .if1 .taken)
+    waited (a .version) (a .row .now) (a .w) (a .number) (a .index) (lent start) (start .pre .1 .0) (a .stage) (c .if1 .taken)
 
 -- where the function starts, as seen past the waits
 abbrev past-waits : tie.After-offset → tie.Start
@@ -46,8 +46,8 @@ returns-2 c =
     let start = past-waits (test .before) in
     let a = start .args in
     let at = test .before .offset in
-    let operation = ap (λ (i : ℕ). operated effect (operationAt (a .row .now) i) (a .cells .now)) (at .ensures) in
-    made (a .row .now) (a .w) (a .number) (a .index) (lent start) (start .pre .1 .0) (a .stage) (done .last .1 .1 .0)
+    let operation = ap (λ (i : ℕ). operated (effect (a .version)) (operationAt (a .row .now) i) (a .cells .now)) (at .ensures) in
+    made (a .version) (a .row .now) (a .w) (a .number) (a .index) (lent start) (start .pre .1 .0) (a .stage) (done .last .1 .1 .1 .0)
     (test .if2 .taken)
     (done .ensures ∙ operation)
 
@@ -118,7 +118,7 @@ returns-3 c =
     let post = c .before .before in
     let read = cell-at (post .before) in
     let start = past-cell read in
-    posted (start .args .number) (at-cell read) (start .args .stage) (c .note .last .0) (post .if3 .taken) (c .note .ensures)
+    posted (start .args .version) (start .args .number) (at-cell read) (start .args .stage) (c .note .last .0) (post .if3 .taken) (c .note .ensures)
 
 is-write-requires : tie.Need-is-write-requires
 is-write-requires c κs =
@@ -147,10 +147,10 @@ returns-4 : tie.Need-returns-4
 returns-4 c =
     let read = cell-ended (c .before) in
     let start = past-cell read in
-    zeroed (start .args .number) (at-cell read) (start .args .stage) (third (c .before .before)) (mode-is (c .before) ∙ c .if4 .taken)
+    zeroed (start .args .version) (start .args .number) (at-cell read) (start .args .stage) (third (c .before .before)) (mode-is (c .before) ∙ c .if4 .taken)
 
-add-t25 : tie.Need-add-t25
-add-t25 c =
+add-t26 : tie.Need-add-t26
+add-t26 c =
     let read = cell-ended (c .before) in
     omega (arith, past-cell read .pre .1 .1 .shared-reads (read .index .result))
 
@@ -169,7 +169,7 @@ returns-5 c =
     let asked = c .before .before .before in
     let read = cell-ended asked in
     let start = past-cell read in
-    ended (start .args .number) (at-cell read) (start .args .stage) (c .note2 .last .0) (third (asked .before))
+    ended (start .args .version) (start .args .number) (at-cell read) (start .args .stage) (c .note2 .last .0) (third (asked .before))
     (mode-is asked ∙ c .before .before .if4 .left)
     (c .note2 .ensures)
 
@@ -181,5 +181,5 @@ change-spec =
     (λ c. search needs) shared-slice-read-index (λ c κs. search needs) (λ c. search needs) index-1-last
     (λ c. search needs) (λ c. search needs) index-1-reads (λ c. search needs) (λ c. search needs)
     element-set-from-shared note-requires returns-3 is-write-requires (λ c. search needs)
-    element-set-from-shared-2 returns-4 add-t25 (λ c. search needs) element-set-from-shared-3 note-requires-2
+    element-set-from-shared-2 returns-4 add-t26 (λ c. search needs) element-set-from-shared-3 note-requires-2
     returns-5)

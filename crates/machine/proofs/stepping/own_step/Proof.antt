@@ -79,9 +79,9 @@ returns c =
     let a = start .args in
     let held = held-at told .held in
     let changed = made .change in
-    -- the cells, the shared and the private counters as the change left them: its sixth to eighth argument
-    let left = changed .last .1 .1 .1 .1 .1 in
-    own-step-made (a .row .now) (a .w) (lent start) (outcomeOf (held .result))
+    -- the cells, the shared and the private counters as the change left them: its seventh to ninth argument
+    let left = changed .last .1 .1 .1 .1 .1 .1 in
+    own-step-made (a .version) (a .row .now) (a .w) (lent start) (outcomeOf (held .result))
     (left .0)
     (left .1 .0)
     (left .1 .1 .0)
@@ -97,7 +97,7 @@ returns-2 c =
     let start = from-held (c .before) in
     let a = start .args in
     let held = c .before .held in
-    own-step-held (a .row .now) (a .w) (lent start) (outcomeOf (held .result)) (start .pre .1 .1 .1 .0) (held .ensures)
+    own-step-held (a .version) (a .row .now) (a .w) (lent start) (outcomeOf (held .result)) (start .pre .1 .1 .1 .0) (held .ensures)
     (stays (held .result) (c .match .keys2))
 
 pub own-step-spec : {M : Type 1} → statement M

@@ -23,7 +23,7 @@ returns : tie.Need-returns
 returns c =
     let start = c .before .before .before .before in
     let a = start .args in
-    step-past (a .file .now) (a .tasks) (a .w) (lent start) (start .pre .0 .0) (start .pre .0 .1) (c .if1 .taken)
+    step-past (a .file .now) (a .version) (a .tasks) (a .w) (lent start) (start .pre .0 .0) (start .pre .0 .1) (c .if1 .taken)
 
 -- where the function starts, as seen from a worker that has tasks left; and both, once its row's place is known
 abbrev with-tasks : tie.Else1 → tie.Start
@@ -104,7 +104,7 @@ returns-2 c =
     let noted-in : List ℕ → List (List (List ℕ)) =
     λ row. notedAll (a .private .now) (a .w) (passed-by (left-at from) + 1) (taskOf row .accesses)
     in
-    step-other (a .file .now) (a .tasks) (a .w) (lent start) (start .pre .0 .0) (start .pre .0 .1) (left-at from .if1 .left) after
+    step-other (a .file .now) (a .version) (a .tasks) (a .w) (lent start) (start .pre .0 .0) (start .pre .0 .1) (left-at from .if1 .left) after
     (c .next-task .result)
     (λ same. other .if2 .taken (owner-is (other .before) ∙ same))
     (subst (λ (row : List ℕ). after ≡ noted-in row) (row-is from) (noted .register .ensures))
@@ -136,10 +136,10 @@ returns-3 c =
     let a = start .args in
     let done = made .own-step in
     let why = outcomeOf (done .result) in
-    let after = arrays (done .last .1 .1 .0) (done .last .1 .1 .1 .0) (done .last .1 .1 .1 .1 .0) (done .last .1 .1 .1 .1 .1 .0) in
-    step-own (a .file .now) (a .tasks) (a .w) (lent start) (start .pre .0 .0) (start .pre .0 .1) (left-at from .if1 .left) why after
+    let after = arrays (done .last .1 .1 .1 .0) (done .last .1 .1 .1 .1 .0) (done .last .1 .1 .1 .1 .1 .0) (done .last .1 .1 .1 .1 .1 .1 .0) in
+    step-own (a .file .now) (a .version) (a .tasks) (a .w) (lent start) (start .pre .0 .0) (start .pre .0 .1) (left-at from .if1 .left) why after
     (sym (owner-is (own .before)) ∙ own .if2 .left)
-    (subst (λ (row : List ℕ). OwnStep row (a .w) (lent start) why after) (row-is from) (done .ensures))
+    (subst (λ (row : List ℕ). OwnStep (a .version) row (a .w) (lent start) why after) (row-is from) (done .ensures))
 
 pub step-spec : {M : Type 1} → statement M
 step-spec =

@@ -12,12 +12,12 @@ use Rattle.run.proofs.plainly.plain_task.Statement.{statement}
 use Rattle.run.proofs.plainly.plain_task.Tie as tie
 
 abbrev Inv-loop : tie.InvT-loop
-Inv-loop row cells₀ count i₀ cells i =
+Inv-loop version row cells₀ count i₀ cells i =
     (i ≤ count) × (count ≡ getD row 2 0) × (length cells ≡ length cells₀)
-    × (afterOperations effect (taskOf row .operations) cells₀ ≡ afterOperations effect (drop i (taskOf row .operations)) cells)
+    × (afterOperations (effect version) (taskOf row .operations) cells₀ ≡ afterOperations (effect version) (drop i (taskOf row .operations)) cells)
 
 abbrev μ-loop : tie.MeasureT-loop
-μ-loop row cells₀ count i₀ cells i = count - i
+μ-loop version row cells₀ count i₀ cells i = count - i
 
 -- where the function starts, as seen from the head of the loop
 abbrev from-loop : tie.At-loop Inv-loop μ-loop → tie.Start Inv-loop μ-loop
@@ -36,21 +36,23 @@ unfolding taskOf
 loop-again c =
     let made = c .before .before in
     let head = made .before .before .before in
+    let version = from-loop head .args .version in
     let row = from-loop head .args .row .now in
     let l = head .loop in (
       search needs,
       search needs,
       search needs,
-      operation-next effect (getD row 2 0) (operationAt row) (l .i) _ (l .cells) (search needs) (l .inv .3)
-          ∙ ap (afterOperations effect (drop (l .i + 1) (taskOf row .operations))) (sym (made .operate .ensures)),
+      operation-next (effect version) (getD row 2 0) (operationAt row) (l .i) _ (l .cells) (search needs) (l .inv .3)
+          ∙ ap (afterOperations (effect version) (drop (l .i + 1) (taskOf row .operations))) (sym (made .operate .ensures)),
     )
 
 returns : tie.Need-returns Inv-loop μ-loop
 unfolding taskOf
 returns c =
+    let version = from-loop (c .before) .args .version in
     let row = from-loop (c .before) .args .row .now in
     let inv = c .before .loop .inv in
-    operations-end effect (getD row 2 0) (operationAt row) (c .before .loop .i) _ (c .before .loop .cells) (search needs) (inv .3)
+    operations-end (effect version) (getD row 2 0) (operationAt row) (c .before .loop .i) _ (c .before .loop .cells) (search needs) (inv .3)
 
 pub plain-task-spec : {M : Type 1} → statement M
 plain-task-spec =

@@ -15,12 +15,12 @@ use Rattle.run.proofs.plainly.plain_tasks.Statement.{statement}
 use Rattle.run.proofs.plainly.plain_tasks.Tie as tie
 
 abbrev Inv-loop : tie.InvT-loop
-Inv-loop file tasks cells₀ done₀ cells done =
+Inv-loop file version tasks cells₀ done₀ cells done =
     (done ≤ tasks) × (length cells ≡ length cells₀)
-    × (afterTasks effect (tasksIn file tasks) cells₀ ≡ afterTasks effect (drop done (tasksIn file tasks)) cells)
+    × (afterTasks (effect version) (tasksIn file tasks) cells₀ ≡ afterTasks (effect version) (drop done (tasksIn file tasks)) cells)
 
 abbrev μ-loop : tie.MeasureT-loop
-μ-loop file tasks cells₀ done₀ cells done = tasks - done
+μ-loop file version tasks cells₀ done₀ cells done = tasks - done
 
 loop-holds : tie.Need-loop-holds Inv-loop μ-loop
 loop-holds c = search needs
@@ -51,16 +51,16 @@ loop-again c =
     let from = placed .start in (
       search needs,
       search needs,
-      task-next effect (a .tasks) (λ i. taskOf (rowAt (a .file .now) (i + 1))) (l .done) _ (l .cells) (placed .before .loop-test .taken) (l .inv .2)
-          ∙ ap (afterTasks effect (drop (l .done + 1) (tasksIn (a .file .now) (a .tasks))))
-          (sym (made .plain-task .ensures ∙ ap (λ (row : List ℕ). afterOperations effect (taskOf row .operations) (l .cells)) (row-there (a .file .now) (from .result) (l .done + 1) (from .ensures)))),
+      task-next (effect (a .version)) (a .tasks) (λ i. taskOf (rowAt (a .file .now) (i + 1))) (l .done) _ (l .cells) (placed .before .loop-test .taken) (l .inv .2)
+          ∙ ap (afterTasks (effect (a .version)) (drop (l .done + 1) (tasksIn (a .file .now) (a .tasks))))
+          (sym (made .plain-task .ensures ∙ ap (λ (row : List ℕ). afterOperations (effect (a .version)) (taskOf row .operations) (l .cells)) (row-there (a .file .now) (from .result) (l .done + 1) (from .ensures)))),
     )
 
 returns : tie.Need-returns Inv-loop μ-loop
 returns c =
     let a = c .before .before .before .before .args in
     let inv = c .before .loop .inv in
-    tasks-end effect (a .tasks) (λ i. taskOf (rowAt (a .file .now) (i + 1))) (c .before .loop .done) _ (c .before .loop .cells) (c .loop-test .left) (inv .2)
+    tasks-end (effect (a .version)) (a .tasks) (λ i. taskOf (rowAt (a .file .now) (i + 1))) (c .before .loop .done) _ (c .before .loop .cells) (c .loop-test .left) (inv .2)
 
 pub plain-tasks-spec : {M : Type 1} → statement M
 plain-tasks-spec =

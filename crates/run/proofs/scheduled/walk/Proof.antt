@@ -12,18 +12,18 @@ use Rattle.run.proofs.scheduled.walk.Statement.{statement}
 use Rattle.run.proofs.scheduled.walk.Tie as tie
 
 abbrev Inv-loop : tie.InvT-loop
-Inv-loop file tasks workers cells₀ schedule shared₀ private₀ places₀ counts₀ reasons₀ waited₀ i₀ cells shared private places counts reasons waited i =
+Inv-loop file version tasks workers cells₀ schedule shared₀ private₀ places₀ counts₀ reasons₀ waited₀ i₀ cells shared private places counts reasons waited i =
     (i ≤ length schedule) × (length cells ≡ length cells₀)
-    × Walking file tasks cells₀ schedule i (arrays cells shared private places) counts reasons waited
+    × Walking file version tasks cells₀ schedule i (arrays cells shared private places) counts reasons waited
 
 abbrev μ-loop : tie.MeasureT-loop
-μ-loop file tasks workers cells₀ schedule shared₀ private₀ places₀ counts₀ reasons₀ waited₀ i₀ cells shared private places counts reasons waited i =
+μ-loop file version tasks workers cells₀ schedule shared₀ private₀ places₀ counts₀ reasons₀ waited₀ i₀ cells shared private places counts reasons waited i =
     length schedule - i
 
 -- what a step leaves
 abbrev after : tie.After-step Inv-loop μ-loop → Arrays
 after c =
-    let left = c .step .last .1 .1 .1 in
+    let left = c .step .last .1 .1 .1 .1 in
     arrays (left .0) (left .1 .0) (left .1 .1 .0) (left .1 .1 .1 .0)
 
 -- where the function starts, as seen before the loop, and from its head; and that head, once a worker is named
@@ -50,7 +50,7 @@ end-of c = c .before .before .before .before
 loop-holds : tie.Need-loop-holds Inv-loop μ-loop
 loop-holds c =
     let a = from-first c .args in
-    let begun = walk-begun (a .file .now) (a .tasks) (a .cells .now) (a .schedule .now) (from-first c .pre .0 .0) in
+    let begun = walk-begun (a .file .now) (a .version) (a .tasks) (a .cells .now) (a .schedule .now) (from-first c .pre .0 .0) in
     (search needs, search needs, rw (c .first-byte .ensures) begun)
 
 step-requires : tie.Need-step-requires Inv-loop μ-loop
@@ -59,7 +59,7 @@ step-requires c κs =
     let head = head-of named in
     let start = from-loop head in
     let a = start .args in
-    step-ready (a .file .now) (a .tasks) (head .loop .inv .2) (named .before .before .loop-test .taken) (a .workers) _ (start .pre .0 .1) (start .pre .0 .2) (start .pre .1)
+    step-ready (a .file .now) (a .version) (a .tasks) (head .loop .inv .2) (named .before .before .loop-test .taken) (a .workers) _ (start .pre .0 .1) (start .pre .0 .2) (start .pre .1)
     (named .index .ensures .0)
 
 note-requires : tie.Need-note-requires Inv-loop μ-loop
@@ -71,8 +71,8 @@ note-requires c κs =
     let a = start .args in
     let walking = head .loop .inv .2 in
     let more = named .before .before .loop-test .taken in (
-      step-ready (a .file .now) (a .tasks) walking more (a .workers) _ (start .pre .0 .1) (start .pre .0 .2) (start .pre .1) (named .index .ensures .0) .0 .1,
-      note-ready (a .file .now) (a .tasks) walking more (outcomeOf (step .step .result)) (start .pre .0 .2),
+      step-ready (a .file .now) (a .version) (a .tasks) walking more (a .workers) _ (start .pre .0 .1) (start .pre .0 .2) (start .pre .1) (named .index .ensures .0) .0 .1,
+      note-ready (a .file .now) (a .version) (a .tasks) walking more (outcomeOf (step .step .result)) (start .pre .0 .2),
     )
 
 loop-again : tie.Need-loop-again Inv-loop μ-loop
@@ -84,7 +84,7 @@ loop-again c =
     let noted = c .note .ensures in (
       search needs,
       search needs,
-      stepped-on (a .file .now) (a .tasks) (head .loop .inv .2) (named .before .before .loop-test .taken) (named .index .result) (named .index .ensures .0) (after step) (outcomeOf (step .step .result)) (step .step .ensures) (noted .0) (noted .1 .0) (noted .1 .1),
+      stepped-on (a .file .now) (a .version) (a .tasks) (head .loop .inv .2) (named .before .before .loop-test .taken) (named .index .result) (named .index .ensures .0) (after step) (outcomeOf (step .step .result)) (step .step .ensures) (noted .0) (noted .1 .0) (noted .1 .1),
     )
 
 done-tasks-requires : tie.Need-done-tasks-requires Inv-loop μ-loop
@@ -99,7 +99,7 @@ counts-fit : (c : tie.After-loop Inv-loop μ-loop)
 counts-fit c =
     let a = from-loop (c .before) .args in
     let inv = c .before .loop .inv in
-    omega (arith, inv .0, counts-add (a .file .now) (a .tasks) (inv .2))
+    omega (arith, inv .0, counts-add (a .file .now) (a .version) (a .tasks) (inv .2))
 
 add-held : tie.Need-add-held Inv-loop μ-loop
 add-held c = omega (arith, counts-fit c, from-loop (c .before) .pre .0 .2)
@@ -116,7 +116,7 @@ returns c =
     let end = end-of c in
     let a = from-loop (end .before) .args in
     let inv = end .before .loop .inv in
-    walk-ended (a .file .now) (a .tasks) (inv .2) (inv .0) (end .loop-test .left) (a .workers) (counted .done-tasks .result) (c .all-past .result) (counted .done-tasks .ensures) (c .all-past .ensures)
+    walk-ended (a .file .now) (a .version) (a .tasks) (inv .2) (inv .0) (end .loop-test .left) (a .workers) (counted .done-tasks .result) (c .all-past .result) (counted .done-tasks .ensures) (c .all-past .ensures)
 
 pub walk-spec : {M : Type 1} → statement M
 walk-spec =
