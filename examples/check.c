@@ -7,6 +7,7 @@ int main(void) {
     sflw_check_answer met;
     size_t size = fread(file, 1, sizeof file, stdin);
     sflw_check(file, size, &met);
-    printf("number %u place %u tasks %u total %u\n", met.number, met.place, met.tasks, met.total);
+    printf("number %u place %u tasks %u total %u version %u\n", met.number, met.place, met.tasks,
+           met.total, met.version);
     return met.number != 0;
 }

@@ -3,14 +3,20 @@
  * and the stepped run.
  *
  * Every call fills its answer and returns the answer's number: 0 for success,
- * 1 to 17 for a refusal. The place says where the fault is: a block (from 0),
- * a task (from 1) or the index of a schedule byte (from 0), and is 0 where
- * none is named. With a refusal every count in the answer is 0, no worker was
- * held, and all other lent memory is as it was.
+ * 1 to 17 or 22 for a refusal. The place says where the fault is: a block (from
+ * 0), a task (from 1) or the index of a schedule byte (from 0), and is 0 where
+ * none is named. With a refusal every count in the answer is 0, the version is
+ * 0, no worker was held, and all other lent memory is as it was.
+ *
+ * A flow is of version 1 or 2, and every block of its file says which.
+ * Operation 5 gives a the two low bytes of b, exchanged; the high half of a
+ * becomes 0 in version 1, and that of b in version 2. In all else the two are
+ * the same.
  *
  * A flow file has the refusals 1; then 2 to 5, block by block; then 6 to 11 and
- * 17, task by task. 17 is a cell of mode 2, write only, that no operation of
- * its task writes.
+ * 17, task by task. 3 covers a version that is neither 1 nor 2, or is not
+ * block 0's. 17 is a cell of mode 2, write only, that no operation of its task
+ * writes.
  *
  * Lengths are in bytes, but for cells_len, which counts cells of 32 bits. A
  * pointer must not be null, even with length 0. Nothing that is lent for
@@ -33,6 +39,7 @@ typedef struct sflw_check_answer {
     uint32_t workers; /* 1 to 8 */
     uint32_t cells;   /* 1 to 32 */
     uint32_t total;   /* the flow's total: the advancing steps of a finished run */
+    uint32_t version; /* 1 or 2 */
 } sflw_check_answer;
 
 typedef struct sflw_read_answer {
@@ -42,6 +49,7 @@ typedef struct sflw_read_answer {
     uint32_t tasks;
     uint32_t workers;
     uint32_t cells;
+    uint32_t version;
 } sflw_read_answer;
 
 typedef struct sflw_write_answer {
@@ -89,7 +97,7 @@ typedef struct sflw_run_answer {
 
 /*
  * Checks a flow file. Refusals: the file's. On success it answers the flow's
- * sizes and its total.
+ * sizes, its total and its version.
  */
 uint32_t sflw_check(const uint8_t *file, size_t file_len,
                     sflw_check_answer *answer);
@@ -97,27 +105,28 @@ uint32_t sflw_check(const uint8_t *file, size_t file_len,
 /*
  * Reads the rows out of a flow file, 48 bytes a task, task 1 first. Refusals:
  * the file's, then 16 if the rows do not fit. Bytes of rows after the last row
- * stay as they were.
+ * stay as they were. On success it answers the flow's sizes and its version.
  */
 uint32_t sflw_read(const uint8_t *file, size_t file_len,
                    uint8_t *rows, size_t rows_len,
                    sflw_read_answer *answer);
 
 /*
- * Writes a flow file from its rows, its workers and its cells, of which any
- * value may be given. Refusals: 15, then 4, then 6 to 11 and 17 task by task,
- * then 16 if the blocks do not fit. Bytes of out after the last block stay as
- * they were.
+ * Writes a flow file from its rows, its version, its workers and its cells, of
+ * which any value may be given. Refusals: 15, then 22 if the version is neither
+ * 1 nor 2, then 4, then 6 to 11 and 17 task by task, then 16 if the blocks do
+ * not fit. Bytes of out after the last block stay as they were.
  */
 uint32_t sflw_write(const uint8_t *rows, size_t rows_len,
-                    uint32_t workers, uint32_t cells,
+                    uint32_t version, uint32_t workers, uint32_t cells,
                     uint8_t *out, size_t out_len,
                     sflw_write_answer *answer);
 
 /*
  * The plain run: the tasks one after another, in place on the lent cells,
- * which hold the start before and the result after. Refusals: the file's, then
- * 12 if the cells lent are not as many as the flow's.
+ * which hold the start before and the result after. It goes by the file's
+ * version. Refusals: the file's, then 12 if the cells lent are not as many as
+ * the flow's.
  */
 uint32_t sflw_plain(const uint8_t *file, size_t file_len,
                     uint32_t *cells, size_t cells_len,
@@ -125,10 +134,10 @@ uint32_t sflw_plain(const uint8_t *file, size_t file_len,
 
 /*
  * The stepped run: each byte of the schedule names the worker that tries its
- * next step. In place on the lent cells, as the plain run. Refusals: the
- * file's, then 12, then 13 if the schedule is over 65,536 bytes, then 14 at its
- * first byte that names no worker. On success it answers the counts, why steps
- * were held, and the latest held step of each worker.
+ * next step. In place on the lent cells and by the file's version, as the plain
+ * run. Refusals: the file's, then 12, then 13 if the schedule is over 65,536
+ * bytes, then 14 at its first byte that names no worker. On success it answers
+ * the counts, why steps were held, and the latest held step of each worker.
  *
  * With every worker named at least once in each stretch of the schedule, the
  * run has finished after at most total - tasks * (workers - 1) stretches, in

@@ -37,6 +37,9 @@ enum { MODE_READ = 1, MODE_WRITE = 2, MODE_BOTH = 3 };
 
 enum { MAX_SCHEDULE = 65536 };
 
+/* A version is 1 or 2 (02, Q-8). */
+enum { MAX_VERSION = 2 };
+
 _Static_assert(MAX_BLOCKS * ROWS_IN_BLOCK == MAX_TASKS, "20 full blocks hold 200 tasks");
 _Static_assert(ROWS_AT + ROWS_IN_BLOCK * ROW == TAIL_AT, "the rows end where the tail begins");
 _Static_assert(MAX_CELLS <= 32, "a set of cells is one 32-bit mask");
@@ -44,6 +47,7 @@ _Static_assert(MAX_TASKS <= 255, "a counter of writes or reads is one byte");
 
 /* A file that was accepted, or rows that are to be written. */
 struct flow {
+    uint32_t version;
     uint32_t tasks;
     uint32_t workers;
     uint32_t cells;
@@ -231,22 +235,30 @@ static uint32_t check_row(const uint8_t *row, struct flow *flow)
 
 uint32_t ref_row(const uint8_t *row, uint32_t workers, uint32_t cells)
 {
-    struct flow flow = {1, workers, cells, 0};
+    struct flow flow = {.tasks = 1, .workers = workers, .cells = cells};
     return cells > MAX_CELLS ? 4 : check_row(row, &flow);
 }
 
 /* ---- the check of a file: refusals 1 to 11 and 17 ---------------------- */
 
-static bool head_formed(const uint8_t *block, uint32_t index, uint32_t blocks)
-{
-    return memcmp(block, "SFLW", 4) == 0 && block[4] == 1 &&
-           get_two(block + 6) == index && get_two(block + 8) == blocks &&
-           get_two(block + 14) == 0;
-}
-
 static bool within(uint32_t value, uint32_t most)
 {
     return value >= 1 && value <= most;
+}
+
+/*
+ * 3: "letters, version, block number, number of blocks (length / 512) or bytes
+ * 14-15 wrong", which "now covers a version that is neither 1 nor 2, or not
+ * block 0's" (02, Q-8). Block 0 sets the version.
+ */
+static bool head_formed(const uint8_t *block, uint32_t index, uint32_t blocks,
+                        struct flow *flow)
+{
+    if (index == 0)
+        flow->version = block[4];
+    return memcmp(block, "SFLW", 4) == 0 && within(block[4], MAX_VERSION) &&
+           block[4] == flow->version && get_two(block + 6) == index &&
+           get_two(block + 8) == blocks && get_two(block + 14) == 0;
 }
 
 static uint32_t blocks_for(uint32_t tasks)
@@ -296,7 +308,7 @@ static uint32_t check_block(const uint8_t *block, uint32_t index,
 {
     if (get_two(block + CHECK_AT) != ref_fletcher(block, CHECK_AT))
         return 2;
-    if (!head_formed(block, index, blocks))
+    if (!head_formed(block, index, blocks, flow))
         return 3;
     if (!sizes_formed(block, index, blocks, flow))
         return 4;
@@ -317,7 +329,7 @@ static const uint8_t *row_at(const uint8_t *file, uint32_t index)
 static uint32_t check_file(const uint8_t *file, size_t file_len,
                            struct flow *flow, uint32_t *place)
 {
-    *flow = (struct flow){0, 0, 0, 0};
+    *flow = (struct flow){0};
     *place = 0;
     if (file_len == 0 || file_len > MAX_BLOCKS * BLOCK || file_len % BLOCK != 0)
         return 1;
@@ -353,7 +365,8 @@ uint32_t ref_check(const uint8_t *file, size_t file_len,
         *answer = (sflw_check_answer){.tasks = flow.tasks,
                                       .workers = flow.workers,
                                       .cells = flow.cells,
-                                      .total = flow.total};
+                                      .total = flow.total,
+                                      .version = flow.version};
     return number;
 }
 
@@ -388,24 +401,31 @@ uint32_t ref_read(const uint8_t *file, size_t file_len,
     *answer = (sflw_read_answer){.bytes = flow.tasks * ROW,
                                  .tasks = flow.tasks,
                                  .workers = flow.workers,
-                                 .cells = flow.cells};
+                                 .cells = flow.cells,
+                                 .version = flow.version};
     return 0;
 }
 
 /* ---- the writer -------------------------------------------------------- */
 
-/* "The writer, given rows, workers and cells, has 15, 4, 6 to 11, 16." With 11
-   comes 17: it "holds for every call that checks a flow" (02, Q-6). */
+/*
+ * "The writer, given rows, workers and cells, has 15, 4, 6 to 11, 16." With 11
+ * comes 17: it "holds for every call that checks a flow" (02, Q-6). The writer
+ * "is told which to write" of the versions, and "gives 22 for another version,
+ * after 15 and before 4" (02, Q-8).
+ */
 static uint32_t check_write(const uint8_t *rows, size_t rows_len,
-                            uint32_t workers, uint32_t cells, size_t out_len,
-                            struct flow *flow, uint32_t *place)
+                            uint32_t version, uint32_t workers, uint32_t cells,
+                            size_t out_len, struct flow *flow, uint32_t *place)
 {
     *place = 0;
     if (rows_len == 0 || rows_len > MAX_TASKS * ROW || rows_len % ROW != 0)
         return 15;
+    if (!within(version, MAX_VERSION))
+        return 22;
     if (!within(workers, MAX_WORKERS) || !within(cells, MAX_CELLS))
         return 4;
-    *flow = (struct flow){(uint32_t)(rows_len / ROW), workers, cells, 0};
+    *flow = (struct flow){version, (uint32_t)(rows_len / ROW), workers, cells, 0};
     for (uint32_t index = 0; index < flow->tasks; index++) {
         uint32_t number = check_row(rows + index * ROW, flow);
         if (number != 0) {
@@ -423,7 +443,7 @@ static void fill_block(uint8_t *block, const uint8_t *rows, uint32_t index,
     uint32_t used = rows_in(flow->tasks, index);
 
     memcpy(block, "SFLW", 4);
-    block[4] = 1;
+    block[4] = (uint8_t)flow->version;
     block[5] = (uint8_t)used;
     put_two(block + 6, index);
     put_two(block + 8, blocks_for(flow->tasks));
@@ -437,13 +457,13 @@ static void fill_block(uint8_t *block, const uint8_t *rows, uint32_t index,
 }
 
 uint32_t ref_write(const uint8_t *rows, size_t rows_len,
-                   uint32_t workers, uint32_t cells,
+                   uint32_t version, uint32_t workers, uint32_t cells,
                    uint8_t *out, size_t out_len,
                    sflw_write_answer *answer)
 {
     struct flow flow;
     uint32_t place;
-    uint32_t number = check_write(rows, rows_len, workers, cells, out_len, &flow, &place);
+    uint32_t number = check_write(rows, rows_len, version, workers, cells, out_len, &flow, &place);
 
     if (number != 0) {
         *answer = (sflw_write_answer){.number = number, .place = place};
@@ -458,8 +478,16 @@ uint32_t ref_write(const uint8_t *rows, size_t rows_len,
 
 /* ---- the plain run ----------------------------------------------------- */
 
+/* "In a version 2 flow, operation 5 exchanges the two bytes of the low half and
+   keeps the high half of b; in version 1 it clears it" (02, Q-8). */
+static uint32_t swapped(uint32_t b, uint32_t version)
+{
+    uint32_t high = version == 1 ? 0 : b & 0xffff0000;
+    return high | (b & 0xff) << 8 | (b >> 8 & 0xff);
+}
+
 /* The table of codes, column "Effect". */
-static void operate(const uint8_t *operation, uint32_t *cells)
+static void operate(const uint8_t *operation, uint32_t version, uint32_t *cells)
 {
     uint32_t *a = cells + operation[1];
     uint32_t b = cells[operation[2]];
@@ -477,7 +505,7 @@ static void operate(const uint8_t *operation, uint32_t *cells)
         *a -= b;
         break;
     case 5:
-        *a = (b & 0xff) << 8 | (b >> 8 & 0xff);
+        *a = swapped(b, version);
         break;
     default:
         if (*a < b)
@@ -510,7 +538,7 @@ uint32_t ref_plain(const uint8_t *file, size_t file_len,
     for (uint32_t index = 0; index < flow.tasks; index++) {
         const uint8_t *row = row_at(file, index);
         for (uint32_t i = 0; i < row[2]; i++)
-            operate(row + OPERATIONS_AT + i * OPERATION, cells);
+            operate(row + OPERATIONS_AT + i * OPERATION, flow.version, cells);
     }
     return 0;
 }
@@ -560,6 +588,7 @@ struct worker {
 struct run {
     const uint8_t *file;
     uint32_t *cells;
+    uint32_t version;
     uint32_t tasks;
     uint32_t done;
     uint32_t past;
@@ -659,7 +688,7 @@ static uint32_t wait_reads(struct run *run, struct worker *worker)
 
 static void make_operation(struct run *run, struct worker *worker)
 {
-    operate(worker->row + OPERATIONS_AT + worker->index * OPERATION, run->cells);
+    operate(worker->row + OPERATIONS_AT + worker->index * OPERATION, run->version, run->cells);
     if (++worker->index == worker->row[2])
         start_ends(worker);
 }
@@ -732,6 +761,7 @@ static void start(struct run *run, const uint8_t *file, uint32_t *cells,
     memset(run, 0, sizeof *run);
     run->file = file;
     run->cells = cells;
+    run->version = flow->version;
     run->tasks = flow->tasks;
     for (uint32_t i = 0; i < flow->workers; i++) {
         run->workers[i].name = (uint8_t)i;

@@ -16,7 +16,7 @@ uint32_t ref_read(const uint8_t *file, size_t file_len,
                   sflw_read_answer *answer);
 
 uint32_t ref_write(const uint8_t *rows, size_t rows_len,
-                   uint32_t workers, uint32_t cells,
+                   uint32_t version, uint32_t workers, uint32_t cells,
                    uint8_t *out, size_t out_len,
                    sflw_write_answer *answer);
 

@@ -49,12 +49,13 @@ static uint32_t nothing_read(const uint8_t *file, size_t file_len, uint8_t *rows
     return 0;
 }
 
-static uint32_t nothing_write(const uint8_t *rows, size_t rows_len, uint32_t workers,
-                              uint32_t count, uint8_t *bytes, size_t length,
+static uint32_t nothing_write(const uint8_t *rows, size_t rows_len, uint32_t version,
+                              uint32_t workers, uint32_t count, uint8_t *bytes, size_t length,
                               sflw_write_answer *answer)
 {
     (void)rows;
     (void)rows_len;
+    (void)version;
     (void)workers;
     (void)count;
     (void)bytes;
@@ -112,7 +113,8 @@ static uint32_t (*const row_checks[])(const uint8_t *, uint32_t, uint32_t) = {
 
 /* ---- what is measured -------------------------------------------------- */
 
-/* The flow that is measured, its file, and two schedules that just finish. */
+/* The flow that is measured, of version 1 where nothing else is said, its file,
+   and two schedules that just finish. */
 struct setting {
     struct sample flow;
     uint8_t file[MOST_FILE];
@@ -198,8 +200,8 @@ static void read_once(enum side side)
 static void write_once(enum side side)
 {
     sflw_write_answer answer;
-    tables[side].write(set.flow.rows, (size_t)set.flow.tasks * ROW_BYTES, set.flow.workers,
-                 set.flow.cells, out, sizeof out, &answer);
+    tables[side].write(set.flow.rows, (size_t)set.flow.tasks * ROW_BYTES, set.flow.version,
+                       set.flow.workers, set.flow.cells, out, sizeof out, &answer);
 }
 
 static void plain_once(enum side side)
@@ -296,6 +298,14 @@ static void measure_line(const char *what, job *once, job *less, double units)
            measured.times[REFERENCE] / units, measured.ratio);
 }
 
+/* The same rows in version 2: about one operation in six is the swap. The steps
+   of a run are the same, so that both schedules stay. */
+static void turn_to_version_2(void)
+{
+    set.flow.version = 2;
+    set.file_len = make_file(&set.flow, set.file);
+}
+
 static void time_largest(void)
 {
     make_setting(MOST_TASKS, MOST_WORKERS, MOST_CELLS);
@@ -308,6 +318,8 @@ static void time_largest(void)
     measure_line("read: ns a byte", read_once, NULL, (double)set.file_len);
     measure_line("write: ns a byte", write_once, NULL, (double)set.file_len);
     measure_line("plain run: ns a byte", plain_once, NULL, (double)set.file_len);
+    turn_to_version_2();
+    measure_line("run, fair, version 2: ns a step", run_fair, run_empty, (double)set.fair_len);
     printf("fair schedule of %zu steps, random one of %zu, file of %zu bytes\n", set.fair_len,
            set.random_len, set.file_len);
 }
@@ -378,8 +390,8 @@ static void call_case(const struct calls *calls)
                     (void *)answer);
         break;
     case CALL_WRITE:
-        calls->write(current.input, current.input_len, current.workers, current.cells,
-                     lent_output, current.output_len, (void *)answer);
+        calls->write(current.input, current.input_len, current.version, current.workers,
+                     current.cells, lent_output, current.output_len, (void *)answer);
         break;
     case CALL_PLAIN:
         calls->plain(current.input, current.input_len, lent_cells, current.output_len / 4,
@@ -456,6 +468,7 @@ static void largest_case(uint32_t call)
         current.input_len = (size_t)set.flow.tasks * ROW_BYTES;
         memcpy(current.input, set.flow.rows, current.input_len);
     }
+    current.version = set.flow.version;
     current.workers = set.flow.workers;
     current.cells = set.flow.cells;
     bool runs = call == CALL_PLAIN || call == CALL_RUN;

@@ -10,7 +10,7 @@ struct calls {
     const char *name;
     uint32_t (*check)(const uint8_t *, size_t, sflw_check_answer *);
     uint32_t (*read)(const uint8_t *, size_t, uint8_t *, size_t, sflw_read_answer *);
-    uint32_t (*write)(const uint8_t *, size_t, uint32_t, uint32_t, uint8_t *, size_t,
+    uint32_t (*write)(const uint8_t *, size_t, uint32_t, uint32_t, uint32_t, uint8_t *, size_t,
                       sflw_write_answer *);
     uint32_t (*plain)(const uint8_t *, size_t, uint32_t *, size_t, sflw_plain_answer *);
     uint32_t (*run)(const uint8_t *, size_t, uint32_t *, size_t, const uint8_t *, size_t,

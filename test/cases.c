@@ -11,9 +11,20 @@ const char *call_name(uint32_t call)
     return names[call <= CALL_RUN ? call : 0];
 }
 
+const uint8_t numbers[NUMBERS] = {0,  1,  2,  3,  4,  5,  6,  7,  8, 9,
+                                  10, 11, 12, 13, 14, 15, 16, 17, 22};
+
+bool is_number(uint32_t number)
+{
+    for (uint32_t i = 0; i < NUMBERS; i++)
+        if (numbers[i] == number)
+            return true;
+    return false;
+}
+
 uint32_t answer_words(uint32_t call)
 {
-    static const uint8_t words[] = {0, 6, 6, 3, 2, 25};
+    static const uint8_t words[] = {0, 7, 7, 3, 2, 25};
     return words[call <= CALL_RUN ? call : 0];
 }
 
@@ -21,8 +32,8 @@ const char *answer_word(uint32_t call, uint32_t index)
 {
     static const char *const words[6][MOST_ANSWER_WORDS] = {
         {0},
-        {"number", "place", "tasks", "workers", "cells", "total"},
-        {"number", "place", "bytes", "tasks", "workers", "cells"},
+        {"number", "place", "tasks", "workers", "cells", "total", "version"},
+        {"number", "place", "bytes", "tasks", "workers", "cells", "version"},
         {"number", "place", "bytes"},
         {"number", "place"},
         {"number",    "place",         "advanced",     "held",    "done",  "finished",
@@ -43,6 +54,14 @@ static void refused(struct test_case *made, uint32_t number, uint32_t place)
         return;
     made->number = number;
     made->place = place;
+}
+
+/* The case has this refusal, whatever others it has: it comes before them. */
+static void refused_first(struct test_case *made, uint32_t number)
+{
+    made->known = true;
+    made->number = number;
+    made->place = 0;
 }
 
 /* ---- sizes ------------------------------------------------------------- */
@@ -89,6 +108,7 @@ static void some_flow(struct random *random, enum sizes sizes, struct sample *fl
         make_full_flow(random, flow, tasks, workers, cells);
     else
         make_flow(random, flow, tasks, workers, cells);
+    flow->version = between(random, 1, MOST_VERSION);
 }
 
 /* A length around what is needed: mostly that, else shorter or longer. */
@@ -447,9 +467,27 @@ static void damage_blindly(struct random *random, struct test_case *made,
     }
 }
 
+/* Blocks of both versions: the first that has not block 0's is at fault. Those
+   after it all have the other one, or some of them. */
+static void mix_versions(struct random *random, struct test_case *made, uint32_t blocks)
+{
+    uint32_t first = 1 + some_index(random, blocks - 1);
+    uint32_t share = chance(random, 300) ? 1000 : below(random, 1000);
+
+    made->kind = "blocks of both versions";
+    for (uint32_t i = first; i < blocks; i++) {
+        uint8_t *block = made->input + BLOCK_BYTES * i;
+        if (i == first || chance(random, share))
+            block[4] = other_version(block[4]);
+        put_check(block);
+    }
+    refused(made, 3, first);
+}
+
 static void some_file(struct random *random, struct test_case *made,
                       const struct sample *flow)
 {
+    uint32_t blocks = blocks_of(flow->tasks);
     /* a run is mostly of a file that is accepted */
     uint32_t valid = made->call == CALL_RUN ? 800 : made->call == CALL_PLAIN ? 600 : 300;
 
@@ -458,7 +496,9 @@ static void some_file(struct random *random, struct test_case *made,
     if (chance(random, valid))
         return;
     uint32_t kind = below(random, 14);
-    if (kind < 7)
+    if (blocks > 1 && chance(random, 100))
+        mix_versions(random, made, blocks);
+    else if (kind < 7)
         choose_faults(random, made, flow, kind);
     else
         damage_blindly(random, made, flow, kind - 7);
@@ -503,6 +543,26 @@ static uint32_t outside(struct random *random, uint32_t most)
     }
 }
 
+/* A version that the writer does not take. */
+static uint32_t no_version(struct random *random)
+{
+    static const uint32_t some[] = {0,   3,     255,   256,      257,        258,
+                                    513, 65537, 65538, 16777217, 0x80000001, UINT32_MAX};
+    return chance(random, 500) ? some[below(random, 12)] : outside(random, MOST_VERSION);
+}
+
+/* The writer's workers, its cells, or both. */
+static void spoil_sizes(struct random *random, struct test_case *made)
+{
+    bool both = chance(random, 200);
+    bool workers = both || chance(random, 500);
+
+    if (workers)
+        made->workers = outside(random, MOST_WORKERS);
+    if (both || !workers)
+        made->cells = outside(random, MOST_CELLS);
+}
+
 static void spoil_rows_length(struct random *random, struct test_case *made)
 {
     size_t was = made->input_len;
@@ -544,7 +604,8 @@ static void some_rows(struct random *random, struct test_case *made,
     }
 }
 
-/* "15, 4, 6 to 11, 16", with 17 after 11: made from the last to the first. */
+/* "15, 4, 6 to 11, 16", with 17 after 11, and 22 "after 15 and before 4": made
+   from the last to the first. */
 static void some_write(struct random *random, struct test_case *made,
                        const struct sample *flow)
 {
@@ -553,6 +614,7 @@ static void some_write(struct random *random, struct test_case *made,
     made->kind = "rows";
     made->input_len = (size_t)flow->tasks * ROW_BYTES;
     memcpy(made->input, flow->rows, made->input_len);
+    made->version = flow->version;
     made->workers = flow->workers;
     made->cells = flow->cells;
     made->output_len = some_room(random, needed, BLOCK_BYTES);
@@ -561,21 +623,16 @@ static void some_write(struct random *random, struct test_case *made,
     if (made->output_len < needed)
         refused(made, 16, 0);
     if (chance(random, 150)) {
-        bool both = chance(random, 200);
-        bool workers = both || chance(random, 500);
-        if (workers)
-            made->workers = outside(random, MOST_WORKERS);
-        if (both || !workers)
-            made->cells = outside(random, MOST_CELLS);
-        made->known = true;
-        made->number = 4;
-        made->place = 0;
+        spoil_sizes(random, made);
+        refused_first(made, 4);
+    }
+    if (chance(random, 120)) {
+        made->version = no_version(random);
+        refused_first(made, 22);
     }
     if (chance(random, 80)) {
         spoil_rows_length(random, made);
-        made->known = true;
-        made->number = 15;
-        made->place = 0;
+        refused_first(made, 15);
     }
 }
 
@@ -759,6 +816,7 @@ void make_case(uint64_t seed, uint64_t number, enum sizes sizes, struct test_cas
     made->output_len = 0;
     made->schedule_len = 0;
     made->stretches.kind = NO_STRETCHES;
+    made->version = 0;
     made->workers = 0;
     made->cells = 0;
     some_flow(&random, sizes, &flow);

@@ -39,7 +39,8 @@ struct test_case {
 
     uint8_t input[ROOM_INPUT]; /* the file; for the writer the rows */
     size_t input_len;
-    uint32_t workers; /* the writer's */
+    uint32_t version; /* the writer's */
+    uint32_t workers;
     uint32_t cells;
 
     uint8_t output[ROOM_OUTPUT]; /* rows, out or cells, as they are lent */
@@ -66,12 +67,23 @@ void some_names(struct random *random, struct test_case *made, uint32_t workers)
 
 const char *call_name(uint32_t call);
 
+/* The numbers that calls answer, from the lowest on: 0 for success, and the
+   refusals 1 to 17 and 22. No call gives 18 to 21 yet, so that tables of numbers
+   go by this list. */
+enum { MOST_NUMBER = 22, NUMBERS = 19 };
+extern const uint8_t numbers[NUMBERS];
+
+bool is_number(uint32_t number);
+
 enum { MOST_ANSWER_WORDS = 25 };
 
-/* The words of a call's answer: 6, 6, 3, 2, 25. */
+/* The words of a call's answer: 7, 7, 3, 2, 25. */
 uint32_t answer_words(uint32_t call);
 
 /* The name of a word of a call's answer. */
 const char *answer_word(uint32_t call, uint32_t index);
+
+/* Which word of the answers of check and read is the version. */
+enum { VERSION_WORD = 6 };
 
 #endif

@@ -7,11 +7,12 @@
  * Ends at the first difference, with the seed and the number of the case.
  * FIRST is the number of the first case, to come straight to one.
  *
- * Else it shows what was met: how often each number; for each reason of a held
- * step, in how many runs that were not refused a step was held for it (for 0,
- * in how many none was held), and how many workers of theirs have it as their
- * latest; and how many runs were under stretches, in each of which every worker
- * is named, and how many of those had to finish.
+ * Else it shows what was met: how often each number; of each version, how many
+ * files were accepted and how many were written; how often 3 was given for a
+ * version; for each reason of a held step, in how many runs that were not refused
+ * a step was held for it (for 0, in how many none was held), and how many workers
+ * of theirs have it as their latest; and how many runs were under stretches, in
+ * each of which every worker is named, and how many of those had to finish.
  */
 #define _DEFAULT_SOURCE
 
@@ -28,7 +29,7 @@
 #include <time.h>
 #include <unistd.h>
 
-enum { NUMBERS = 18, REASONS = 4 };
+enum { REASONS = 4 };
 
 static const struct calls library = LIBRARY_CALLS;
 static const struct calls reference = REFERENCE_CALLS;
@@ -44,8 +45,14 @@ static const char *volatile inside = "no call";
 
 /* ---- what is met ------------------------------------------------------- */
 
+/* Why a version was refused with 3. */
+enum { NEITHER, OTHER_IN_BLOCK_1, OTHER_LATER, VERSION_FAULTS };
+
 struct tally {
-    uint64_t met[CALL_RUN + 1][NUMBERS];
+    uint64_t met[CALL_RUN + 1][MOST_NUMBER + 1];
+    uint64_t accepted[MOST_VERSION + 1]; /* files, by their version */
+    uint64_t written[MOST_VERSION + 1];
+    uint64_t version_faults[VERSION_FAULTS];
     uint64_t known;
     uint64_t finished;
     uint64_t steps;
@@ -70,10 +77,37 @@ static void count_run(const sflw_run_answer *run)
     tally.stretches[current.stretches.kind]++;
 }
 
+/* A file that was refused with 3 at a block: for its version, if that is wrong
+   and the letters are right. */
+static void count_version_fault(uint32_t place)
+{
+    const uint8_t *block = current.input + BLOCK_BYTES * place;
+
+    if (memcmp(block, "SFLW", 4) != 0)
+        return;
+    if (block[4] < 1 || block[4] > MOST_VERSION)
+        tally.version_faults[NEITHER]++;
+    else if (block[4] != current.input[4])
+        tally.version_faults[place == 1 ? OTHER_IN_BLOCK_1 : OTHER_LATER]++;
+}
+
+static void count_version(void)
+{
+    if (reference_memory.returned == 3)
+        count_version_fault(answer_at(&reference_memory, 1));
+    if (reference_memory.returned != 0)
+        return;
+    if (current.call == CALL_WRITE)
+        tally.written[current.version]++;
+    else
+        tally.accepted[current.input[4]]++;
+}
+
 static void count_case(void)
 {
     tally.met[current.call][reference_memory.returned]++;
     tally.known += current.known;
+    count_version();
     if (current.call == CALL_RUN && reference_memory.returned == 0) {
         sflw_run_answer run = run_answer(&reference_memory);
         count_run(&run);
@@ -97,18 +131,35 @@ static void print_stretches(void)
            finish + tally.stretches[FEWER_STRETCHES], finish);
 }
 
-static void print_tally(void)
+static void print_numbers(void)
 {
     printf("%6s", "number");
     for (uint32_t call = CALL_CHECK; call <= CALL_RUN; call++)
         printf(" %8s", call_name(call));
     printf(" %9s\n", "all");
-    for (uint32_t number = 0; number < NUMBERS; number++) {
-        printf("%6" PRIu32, number);
+    for (uint32_t i = 0; i < NUMBERS; i++) {
+        printf("%6u", numbers[i]);
         for (uint32_t call = CALL_CHECK; call <= CALL_RUN; call++)
-            printf(" %8" PRIu64, tally.met[call][number]);
-        printf(" %9" PRIu64 "\n", met_in_all(number));
+            printf(" %8" PRIu64, tally.met[call][numbers[i]]);
+        printf(" %9" PRIu64 "\n", met_in_all(numbers[i]));
     }
+}
+
+static void print_versions(void)
+{
+    printf("%7s %9s %8s\n", "version", "accepted", "written");
+    for (uint32_t version = 1; version <= MOST_VERSION; version++)
+        printf("%7" PRIu32 " %9" PRIu64 " %8" PRIu64 "\n", version, tally.accepted[version],
+               tally.written[version]);
+    printf("3 for a version: %" PRIu64 " neither 1 nor 2; not block 0's: %" PRIu64
+           " in block 1, %" PRIu64 " in a later one\n", tally.version_faults[NEITHER],
+           tally.version_faults[OTHER_IN_BLOCK_1], tally.version_faults[OTHER_LATER]);
+}
+
+static void print_tally(void)
+{
+    print_numbers();
+    print_versions();
     printf("%6s %8s %8s\n", "reason", "runs", "latest");
     for (uint32_t reason = 0; reason < REASONS; reason++)
         printf("%6" PRIu32 " %8" PRIu64 " %8" PRIu64 "\n", reason, tally.runs[reason],
@@ -123,16 +174,23 @@ static bool enough_of(const char *what, uint32_t which, uint64_t met, uint64_t w
     return met >= wanted;
 }
 
-/* Every number at least 20 times in 100,000 cases. Every reason at least once
-   in a hundred runs that are not refused, and as often as a latest one; so too
-   every kind of stretches. */
+/* Every number and every fault of a version at least 20 times in 100,000 cases.
+   Every version in at least one of four cases that are not refused. Every reason
+   at least once in a hundred runs that are not refused, and as often as a latest
+   one; so too every kind of stretches. */
 static bool enough_met(uint64_t cases)
 {
     uint64_t runs = tally.met[CALL_RUN][0];
     bool enough = true;
 
-    for (uint32_t number = 0; number < NUMBERS; number++)
-        enough &= enough_of("number", number, met_in_all(number), cases / 5000);
+    for (uint32_t i = 0; i < NUMBERS; i++)
+        enough &= enough_of("number", numbers[i], met_in_all(numbers[i]), cases / 5000);
+    for (uint32_t version = 1; version <= MOST_VERSION; version++) {
+        uint64_t met = tally.accepted[version] + tally.written[version];
+        enough &= enough_of("version", version, met, met_in_all(0) / 4);
+    }
+    for (uint32_t fault = 0; fault < VERSION_FAULTS; fault++)
+        enough &= enough_of("fault of a version", fault, tally.version_faults[fault], cases / 5000);
     for (uint32_t reason = 0; reason < REASONS; reason++) {
         enough &= enough_of("reason", reason, tally.runs[reason], runs / 100);
         enough &= enough_of("latest reason", reason, tally.latest[reason], runs / 100);
@@ -165,9 +223,9 @@ static void print_case(const char *what)
 {
     print_which();
     printf("%s\n", what);
-    printf("lengths: input %zu output %zu schedule %zu; workers %" PRIu32 " cells %" PRIu32 "\n",
-           current.input_len, current.output_len, current.schedule_len, current.workers,
-           current.cells);
+    printf("lengths: input %zu output %zu schedule %zu; version %" PRIu32 " workers %" PRIu32
+           " cells %" PRIu32 "\n", current.input_len, current.output_len, current.schedule_len,
+           current.version, current.workers, current.cells);
     if (current.known)
         printf("made so that: number %" PRIu32 " place %" PRIu32 "\n", current.number,
                current.place);
@@ -202,9 +260,9 @@ static void ended_by_signal(int number)
 
 static void catch_signals(void)
 {
-    static const int numbers[] = {SIGSEGV, SIGBUS, SIGILL, SIGFPE, SIGABRT};
-    for (size_t i = 0; i < sizeof numbers / sizeof numbers[0]; i++)
-        signal(numbers[i], ended_by_signal);
+    static const int signals[] = {SIGSEGV, SIGBUS, SIGILL, SIGFPE, SIGABRT};
+    for (size_t i = 0; i < sizeof signals / sizeof signals[0]; i++)
+        signal(signals[i], ended_by_signal);
 }
 
 /* ---- one case ---------------------------------------------------------- */
@@ -248,7 +306,7 @@ static bool finished_as_plain(void)
            memcmp(cells, reference_memory.output.at, current.output_len) == 0;
 }
 
-/* Rows that were read make the same file again. */
+/* Rows that were read make the same file again, in the version that was read. */
 static bool written_as_read(void)
 {
     static uint8_t file[MOST_FILE];
@@ -257,8 +315,8 @@ static bool written_as_read(void)
     if (current.call != CALL_READ || reference_memory.returned != 0)
         return true;
     ref_write(reference_memory.output.at, answer_at(&reference_memory, 2),
-              answer_at(&reference_memory, 4), answer_at(&reference_memory, 5), file, MOST_FILE,
-              &written);
+              answer_at(&reference_memory, VERSION_WORD), answer_at(&reference_memory, 4),
+              answer_at(&reference_memory, 5), file, MOST_FILE, &written);
     return written.number == 0 && written.bytes == current.input_len &&
            memcmp(file, current.input, current.input_len) == 0;
 }
@@ -363,8 +421,8 @@ static bool long_lengths_pass(const struct calls *calls, uint8_t *room)
     pass &= long_answer("rows lent", calls->read(file, length, room, over + 1, &read), 0);
     pass &= memcmp(room, flow.rows, 3 * ROW_BYTES) == 0;
     memcpy(room, flow.rows, 3 * ROW_BYTES);
-    pass &= long_answer("rows", calls->write(room, over + 144, 2, 3, out, 512, &written), 15);
-    pass &= long_answer("out", calls->write(flow.rows, 144, 2, 3, room, over + 1, &written), 0);
+    pass &= long_answer("rows", calls->write(room, over + 144, 1, 2, 3, out, 512, &written), 15);
+    pass &= long_answer("out", calls->write(flow.rows, 144, 1, 2, 3, room, over + 1, &written), 0);
     pass &= memcmp(room, file, length) == 0;
     memset(room, 0, BLOCK_BYTES);
     uint32_t *many = (uint32_t *)(void *)room;

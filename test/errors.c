@@ -4,13 +4,15 @@
  *
  *     errors [FLOWS [SEED]]
  *
- * The steps stand here once more, written from the scope document (01), with a
- * switch for the error. A line for each error, 0 being none, has the number of
- * flows in which each statement failed. The program ends with 0 if for every
+ * The steps stand here once more, written from the scope document (01) and the
+ * change requests after it (02), with a switch for the error. Every other flow
+ * is of version 2 (02, Q-8). A line for each error, 0 being none, has the number
+ * of flows in which each statement failed. The program ends with 0 if for every
  * error each statement that docs/CONTRACTS.md names as failing failed in some
- * flow and the others in none, and case P10 shows the wrong swap. Some failures
- * are rare: the first error's of the values needs about 10,000 flows to show,
- * so with far fewer flows than without words the program ends with 1.
+ * flow and the others in none, and case P10 shows the wrong swap in both
+ * versions. Some failures are rare: the first error's of the values needs about
+ * 10,000 flows to show, so with far fewer flows than without words the program
+ * ends with 1.
  */
 #include "flows.h"
 #include "words.h"
@@ -52,7 +54,7 @@ static const struct {
 };
 
 static enum error error;
-static uint32_t tasks, workers;
+static uint32_t version, tasks, workers;
 static uint8_t rows[TASKS][ROW_BYTES];
 static struct step steps[TASKS][STEPS]; /* the owner's, under the error */
 static uint32_t step_count[TASKS];
@@ -137,8 +139,8 @@ static void operate(const uint8_t *operation, uint32_t *cells)
     uint32_t a = cells[operation[1]];
     uint32_t b = cells[operation[2]];
     uint32_t k = operation[4] + 256u * operation[5];
-    uint32_t high = error == HIGH_HALF_KEPT ? a / 65536 * 65536 : 0;
-    uint32_t swapped = high + b % 256 * 256 + b / 256 % 256;
+    uint32_t high = error == HIGH_HALF_KEPT ? a / 65536 : version == 2 ? b / 65536 : 0;
+    uint32_t swapped = high * 65536 + b % 256 * 256 + b / 256 % 256;
     const uint32_t by_code[] = {a, k, b, a + b, a - b, swapped, a > b ? a : b};
     cells[operation[1]] = by_code[operation[0]];
 }
@@ -332,7 +334,7 @@ static bool print_line(uint32_t which, const uint64_t counts[STATEMENTS])
     return right;
 }
 
-/* The swap of case P10 under an error. */
+/* The swap of case P10 in this version under an error. */
 static uint32_t swap_under(enum error which)
 {
     static const uint8_t operation[] = {5, 0, 1, 0, 0, 0};
@@ -342,28 +344,39 @@ static uint32_t swap_under(enum error which)
     return cells[0];
 }
 
+/* Whether it is what the version asks for, and the wrong one is not. */
+static bool print_swap(uint32_t wanted)
+{
+    uint32_t swapped = swap_under(NONE);
+    uint32_t kept = swap_under(HIGH_HALF_KEPT);
+    printf("P10, the swap in version %" PRIu32 ": %" PRIu32 " by the rule, %" PRIu32
+           " under error 4\n", version, swapped, kept);
+    return swapped == wanted && kept != wanted;
+}
+
 int main(int count, char **arguments)
 {
     struct words words = words_of("errors", count, arguments);
     uint64_t flows = next_number(&words, "FLOWS", 1, UINT32_MAX, 100000);
     uint64_t seed = next_number(&words, "SEED", 0, UINT64_MAX, 20220127);
     static uint64_t counts[ERRORS][STATEMENTS];
+    static const uint32_t swaps[] = {0, 17699, 83235}; /* by version */
+    bool right = true;
     no_more_words(&words);
 
     for (uint64_t i = 0; i < flows; i++) {
         struct random random = random_of_case(seed, i);
         make_small_flow(&random);
+        version = 1 + i % 2;
         for (error = NONE; error < ERRORS; error++)
             try_error(random, counts[error]);
     }
-    uint32_t swapped = swap_under(NONE);
-    uint32_t kept = swap_under(HIGH_HALF_KEPT);
-    bool right = swapped == 17699 && kept != 17699;
     printf("of %" PRIu64 " flows, those in which a statement of demand 3 failed\n", flows);
     printf("%-48s declared    order progress    total   values\n", "error");
     for (uint32_t i = 0; i < ERRORS; i++)
         right &= print_line(i, counts[i]);
-    printf("P10, the swap: %" PRIu32 " by the rule, %" PRIu32 " under error 4\n", swapped, kept);
+    for (version = 1; version <= MOST_VERSION; version++)
+        right &= print_swap(swaps[version]);
     printf("%s docs/CONTRACTS.md says\n", right ? "as" : "wrong: not as");
     return right ? 0 : 1;
 }

@@ -30,12 +30,19 @@ static void put_head(uint8_t *row, uint32_t owner, uint32_t accesses, uint32_t o
     row[2] = (uint8_t)operations;
 }
 
+/* Of version 1. */
+static void set_sizes(struct sample *flow, uint32_t tasks, uint32_t workers, uint32_t cells)
+{
+    flow->version = 1;
+    flow->tasks = tasks;
+    flow->workers = workers;
+    flow->cells = cells;
+}
+
 void make_flow_a(struct sample *flow)
 {
     uint8_t *row = flow->rows;
-    flow->tasks = 3;
-    flow->workers = 2;
-    flow->cells = 3;
+    set_sizes(flow, 3, 2, 3);
 
     put_head(row, 0, 1, 1);
     put_access(row, 0, 0, 2);
@@ -139,13 +146,6 @@ void make_row(struct random *random, uint8_t *row, uint32_t workers, uint32_t ho
     make_operations(random, row, readable, writable);
 }
 
-static void set_sizes(struct sample *flow, uint32_t tasks, uint32_t workers, uint32_t cells)
-{
-    flow->tasks = tasks;
-    flow->workers = workers;
-    flow->cells = cells;
-}
-
 void make_flow(struct random *random, struct sample *flow,
                uint32_t tasks, uint32_t workers, uint32_t cells)
 {
@@ -237,7 +237,7 @@ size_t make_file(const struct sample *flow, uint8_t *file)
     for (uint32_t index = 0; index < blocks; index++) {
         uint8_t *block = file + BLOCK_BYTES * index;
         memcpy(block, "SFLW", 4);
-        block[4] = 1;
+        block[4] = (uint8_t)flow->version;
         block[5] = (uint8_t)(index + 1 < blocks ? 10 : flow->tasks - 10 * index);
         put_two(block + 6, index);
         put_two(block + 8, blocks);
@@ -250,6 +250,19 @@ size_t make_file(const struct sample *flow, uint8_t *file)
     for (uint32_t index = 0; index < blocks; index++)
         put_check(file + BLOCK_BYTES * index);
     return (size_t)blocks * BLOCK_BYTES;
+}
+
+uint8_t other_version(uint8_t version)
+{
+    return version == 1 ? 2 : 1;
+}
+
+bool all_of_version(const uint8_t *file, size_t length, uint32_t version)
+{
+    for (size_t at = 0; at < length; at += BLOCK_BYTES)
+        if (file[at + 4] != version)
+            return false;
+    return true;
 }
 
 /* ---- faults of a row --------------------------------------------------- */
@@ -546,10 +559,39 @@ static void spoil_check(struct random *random, uint8_t *block)
     }
 }
 
-static void spoil_head(struct random *random, uint8_t *block)
+/* A version that is neither 1 nor 2: often one beside them, or the last. */
+static uint8_t no_version(struct random *random)
 {
-    static const uint8_t places[] = {0, 1, 2, 3, 4, 6, 7, 8, 9, 14, 15, 4, 6, 8};
-    change_byte(random, block + places[below(random, sizeof places)]);
+    if (chance(random, 250))
+        return 0;
+    return from(random, MOST_VERSION + 1);
+}
+
+/* "a version that is neither 1 nor 2, or not block 0's" (02, Q-8) */
+static void spoil_version(struct random *random, uint8_t *file, uint32_t index)
+{
+    uint8_t *block = file + BLOCK_BYTES * index;
+
+    if (index == 0 || chance(random, 300)) {
+        block[4] = no_version(random);
+    } else if (index == 1 && chance(random, 300)) {
+        /* block 0 sets the version, so block 1 is the one at fault */
+        file[4] = other_version(file[4]);
+        put_check(file);
+    } else {
+        block[4] = other_version(file[4]);
+    }
+}
+
+static void spoil_head(struct random *random, uint8_t *file, uint32_t index)
+{
+    static const uint8_t places[] = {0, 1, 2, 3, 6, 7, 8, 9, 14, 15, 6, 8};
+    uint8_t *block = file + BLOCK_BYTES * index;
+
+    if (chance(random, index == 0 ? 250 : 600))
+        spoil_version(random, file, index);
+    else
+        change_byte(random, block + places[below(random, sizeof places)]);
 }
 
 static void put_tasks(uint8_t *file, uint32_t blocks, uint32_t tasks)
@@ -661,7 +703,7 @@ void spoil_block(struct random *random, uint8_t *file, uint32_t blocks,
         spoil_check(random, block);
         return;
     case 3:
-        spoil_head(random, block);
+        spoil_head(random, file, index);
         break;
     case 4:
         if (index == 0)

@@ -15,6 +15,7 @@ enum {
     MOST_TASKS = 200,
     MOST_WORKERS = 8,
     MOST_CELLS = 32,
+    MOST_VERSION = 2,
     ROW_BYTES = 48,
     BLOCK_BYTES = 512,
     MOST_BLOCKS = 20,
@@ -22,13 +23,14 @@ enum {
 };
 
 struct sample {
+    uint32_t version;
     uint32_t tasks;
     uint32_t workers;
     uint32_t cells;
     uint8_t rows[MOST_TASKS * ROW_BYTES];
 };
 
-/* Flow A of 01, "A flow on the bench". */
+/* Flow A of 01, "A flow on the bench", of version 1. */
 void make_flow_a(struct sample *flow);
 
 /* A valid row: any owner, accesses, modes and operations that 01 allows, with
@@ -36,7 +38,8 @@ void make_flow_a(struct sample *flow);
    `hot`, which is at most the flow's cells. */
 void make_row(struct random *random, uint8_t *row, uint32_t workers, uint32_t hot);
 
-/* A valid flow of these sizes. */
+/* A valid flow of these sizes, of version 1. Its rows are valid in version 2 as
+   well. */
 void make_flow(struct random *random, struct sample *flow,
                uint32_t tasks, uint32_t workers, uint32_t cells);
 
@@ -60,6 +63,12 @@ uint8_t *row_in_file(uint8_t *file, uint32_t index);
 
 /* The file of a flow; answers its length. */
 size_t make_file(const struct sample *flow, uint8_t *file);
+
+/* The other one of versions 1 and 2. */
+uint8_t other_version(uint8_t version);
+
+/* Whether every block of a file says this version. */
+bool all_of_version(const uint8_t *file, size_t length, uint32_t version);
 
 /* Puts the check of a block right. */
 void put_check(uint8_t *block);

@@ -11,6 +11,8 @@
 enum { PAGE = 4096, GUARD = 64 };
 
 _Static_assert(sizeof(sflw_run_answer) == 4 * MOST_ANSWER_WORDS, "the longest answer is a run's");
+_Static_assert(offsetof(sflw_check_answer, version) == 4 * VERSION_WORD &&
+               offsetof(sflw_read_answer, version) == 4 * VERSION_WORD, "where the version is");
 
 static uint8_t guard_byte(size_t index)
 {
@@ -123,8 +125,8 @@ void call_case(const struct calls *calls, const struct test_case *given,
         memory->returned = calls->read(input, given->input_len, output, given->output_len, answer);
         break;
     case CALL_WRITE:
-        memory->returned = calls->write(input, given->input_len, given->workers, given->cells,
-                                        output, given->output_len, answer);
+        memory->returned = calls->write(input, given->input_len, given->version, given->workers,
+                                        given->cells, output, given->output_len, answer);
         break;
     case CALL_PLAIN:
         memory->returned = calls->plain(input, given->input_len, (uint32_t *)(void *)output,
@@ -138,7 +140,7 @@ void call_case(const struct calls *calls, const struct test_case *given,
     }
 }
 
-/* A refusal "reports zero counts", and no worker a held step. */
+/* A refusal "reports zero counts", no version, and of no worker a held step. */
 static bool counts_are_zero(const struct memory *memory, uint32_t call)
 {
     for (uint32_t i = 2; i < answer_words(call); i++)
@@ -198,6 +200,42 @@ static const char *run_misdeed(const struct memory *memory, const struct test_ca
     return stretches_misdeed(given, &run);
 }
 
+/* What no write does that is not refused, or null. */
+static const char *write_misdeed(const struct memory *memory, const struct test_case *given)
+{
+    uint32_t written = answer_at(memory, 2);
+
+    if (written > given->output_len)
+        return "answered more bytes than were lent";
+    if (!all_of_version(memory->output.at, written, given->version))
+        return "wrote another version than it was told";
+    return NULL;
+}
+
+/* What no call does about the version of a file that is not refused, or null. */
+static const char *version_misdeed(const struct memory *memory, const struct test_case *given)
+{
+    uint32_t version = given->input[4];
+    bool says = given->call == CALL_CHECK || given->call == CALL_READ;
+
+    if (version < 1 || version > MOST_VERSION)
+        return "took a file of a version that is neither 1 nor 2";
+    if (!all_of_version(given->input, given->input_len, version))
+        return "took a file of which a block has another version than block 0";
+    if (says && answer_at(memory, VERSION_WORD) != version)
+        return "answered another version than the file has";
+    return NULL;
+}
+
+/* What no call answers or does that is not refused, or null. */
+static const char *success_misdeed(const struct memory *memory, const struct test_case *given)
+{
+    if (given->call == CALL_WRITE)
+        return write_misdeed(memory, given);
+    const char *wrong = version_misdeed(memory, given);
+    return wrong == NULL && given->call == CALL_RUN ? run_misdeed(memory, given) : wrong;
+}
+
 const char *misdeed(const struct memory *memory, const struct test_case *given)
 {
     if (!guards_hold(&memory->input) || !guards_hold(&memory->output) ||
@@ -209,12 +247,12 @@ const char *misdeed(const struct memory *memory, const struct test_case *given)
         return "changed the schedule";
     if (memory->returned != answer_at(memory, 0))
         return "returned another number than the one it answered";
+    if (!is_number(memory->returned))
+        return "answered a number that no call has";
     if (memory->returned != 0 &&
         memcmp(memory->output.at, given->output, given->output_len) != 0)
         return "refused, and changed lent memory all the same";
     if (memory->returned != 0 && !counts_are_zero(memory, given->call))
-        return "refused, and answered a count or a held step all the same";
-    if (memory->returned == 0 && given->call == CALL_RUN)
-        return run_misdeed(memory, given);
-    return NULL;
+        return "refused, and answered a count, a version or a held step all the same";
+    return memory->returned == 0 ? success_misdeed(memory, given) : NULL;
 }

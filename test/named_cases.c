@@ -6,6 +6,7 @@
 
 static void put_flow(struct test_case *made, const struct sample *flow)
 {
+    made->version = flow->version;
     made->workers = flow->workers;
     made->cells = flow->cells;
     if (made->call == CALL_WRITE) {
@@ -29,9 +30,9 @@ static void flow_a(struct test_case *made)
 }
 
 /* One task of one worker: cell 0, of mode 3, by one operation with cell 1. */
-static void one_operation(struct test_case *made, uint8_t code)
+static void one_operation(struct test_case *made, uint32_t version, uint8_t code)
 {
-    struct sample flow = {1, 1, 2, {0, 2, 1, 0, 0, 3, 1, 1}};
+    struct sample flow = {version, 1, 1, 2, {0, 2, 1, 0, 0, 3, 1, 1}};
     flow.rows[12] = code;
     flow.rows[14] = 1;
     put_flow(made, &flow);
@@ -39,23 +40,23 @@ static void one_operation(struct test_case *made, uint8_t code)
 
 static void operation_3(struct test_case *made)
 {
-    one_operation(made, 3);
+    one_operation(made, 1, 3);
 }
 
 static void operation_4(struct test_case *made)
 {
-    one_operation(made, 4);
+    one_operation(made, 1, 4);
 }
 
 static void operation_5(struct test_case *made)
 {
-    one_operation(made, 5);
+    one_operation(made, 1, 5);
 }
 
 /* One task that reads cell 0 and has no operation. */
 static void no_operation(struct test_case *made)
 {
-    struct sample flow = {1, 1, 1, {0, 1, 0, 0, 0, 1}};
+    struct sample flow = {1, 1, 1, 1, {0, 1, 0, 0, 0, 1}};
     put_flow(made, &flow);
 }
 
@@ -64,7 +65,7 @@ static void no_operation(struct test_case *made)
 /* One task of one worker with 32 cells, its row given. */
 static void one_row(struct test_case *made, const uint8_t *row, size_t length)
 {
-    struct sample flow = {1, 1, MOST_CELLS, {0}};
+    struct sample flow = {1, 1, 1, MOST_CELLS, {0}};
     memcpy(flow.rows, row, length);
     put_flow(made, &flow);
 }
@@ -228,8 +229,8 @@ static void written_by_the_sixth(struct test_case *made)
    then cell 0, which is write only, becomes cell 1. */
 static void written_by_the_third(struct test_case *made)
 {
-    struct sample flow = {1, 1, 2, {0, 2, 3, 0, 0, 2, 1, 3, 0, 0, 0, 0,
-                                    1, 1, 0, 0, 7, 0, 3, 1, 1, 0, 0, 0, 2, 0, 1}};
+    struct sample flow = {1, 1, 1, 2, {0, 2, 3, 0, 0, 2, 1, 3, 0, 0, 0, 0,
+                                       1, 1, 0, 0, 7, 0, 3, 1, 1, 0, 0, 0, 2, 0, 1}};
     put_flow(made, &flow);
 }
 
@@ -238,7 +239,7 @@ static void written_by_the_third(struct test_case *made)
 static void two_tasks(struct test_case *made, uint32_t writer)
 {
     static const uint8_t operation[] = {1, 1, 0, 0, 7};
-    struct sample flow = {2, 1, 2, {0, 1, 0, 0, 1, 2}};
+    struct sample flow = {1, 2, 1, 2, {0, 1, 0, 0, 1, 2}};
     memcpy(flow.rows + ROW_BYTES, flow.rows, ROW_BYTES);
     flow.rows[writer * ROW_BYTES + 2] = 1;
     memcpy(flow.rows + writer * ROW_BYTES + 12, operation, sizeof operation);
@@ -259,7 +260,7 @@ static void written_by_the_task_after(struct test_case *made)
 static void last_task_unwritten(struct test_case *made)
 {
     static const uint8_t row[] = {0, 1, 1, 0, 0, 2, 0, 0, 0, 0, 0, 0, 1, 0, 0, 0, 7};
-    struct sample flow = {MOST_TASKS, 1, 1, {0}};
+    struct sample flow = {1, MOST_TASKS, 1, 1, {0}};
     for (uint32_t i = 0; i < MOST_TASKS; i++)
         memcpy(flow.rows + i * ROW_BYTES, row, sizeof row);
     uint8_t *last = flow.rows + (MOST_TASKS - 1) * ROW_BYTES;
@@ -271,7 +272,7 @@ static void last_task_unwritten(struct test_case *made)
 /* One task with cell 0 of mode 3 and no operation. */
 static void mode_3_unwritten(struct test_case *made)
 {
-    struct sample flow = {1, 1, 1, {0, 1, 0, 0, 0, 3}};
+    struct sample flow = {1, 1, 1, 1, {0, 1, 0, 0, 0, 3}};
     put_flow(made, &flow);
 }
 
@@ -284,12 +285,19 @@ static void mode_3_only_read(struct test_case *made)
 
 /* ---- limits ------------------------------------------------------------ */
 
-static void put_largest(struct test_case *made)
+/* Blocks with ten full tasks each, 8 workers and 32 cells. */
+static void full_blocks(struct test_case *made, uint32_t version, uint32_t blocks)
 {
     struct random random = random_of_case(200, 8);
     struct sample flow;
-    make_full_flow(&random, &flow, MOST_TASKS, MOST_WORKERS, MOST_CELLS);
+    make_full_flow(&random, &flow, 10 * blocks, MOST_WORKERS, MOST_CELLS);
+    flow.version = version;
     put_flow(made, &flow);
+}
+
+static void put_largest(struct test_case *made)
+{
+    full_blocks(made, 1, MOST_BLOCKS);
 }
 
 static void tasks_201(struct test_case *made)
@@ -398,7 +406,7 @@ enum { HEAD_BYTES = 12 };
 static void put_tasks(struct test_case *made, uint32_t workers, uint32_t cells,
                       const uint8_t heads[][HEAD_BYTES], uint32_t tasks)
 {
-    struct sample flow = {tasks, workers, cells, {0}};
+    struct sample flow = {1, tasks, workers, cells, {0}};
     for (uint32_t i = 0; i < tasks; i++)
         memcpy(flow.rows + i * ROW_BYTES, heads[i], HEAD_BYTES);
     put_flow(made, &flow);
@@ -481,6 +489,277 @@ static void eight_workers(struct test_case *made)
     put_tasks(made, MOST_WORKERS, MOST_CELLS, heads, 9);
 }
 
+/* ---- two versions of the swap ------------------------------------------ */
+
+static void flow_a_of_2(struct test_case *made)
+{
+    struct sample flow;
+    make_flow_a(&flow);
+    flow.version = 2;
+    put_flow(made, &flow);
+}
+
+static void operation_5_of_2(struct test_case *made)
+{
+    one_operation(made, 2, 5);
+}
+
+static void operation_6_of_2(struct test_case *made)
+{
+    one_operation(made, 2, 6);
+}
+
+/* One task of one worker: cell 0 becomes itself swapped. */
+static void swap_in_place(struct test_case *made, uint32_t version)
+{
+    struct sample flow = {version, 1, 1, 1, {0, 1, 1, 0, 0, 3, 0, 0, 0, 0, 0, 0, 5}};
+    put_flow(made, &flow);
+}
+
+static void in_place_of_1(struct test_case *made)
+{
+    swap_in_place(made, 1);
+}
+
+static void in_place_of_2(struct test_case *made)
+{
+    swap_in_place(made, 2);
+}
+
+/* One task of one worker: cell 0, which is write only, becomes cell 1 swapped. */
+static void swap_into_mode_2(struct test_case *made)
+{
+    struct sample flow = {2, 1, 1, 2, {0, 2, 1, 0, 0, 2, 1, 1, 0, 0, 0, 0, 5, 0, 1}};
+    put_flow(made, &flow);
+}
+
+/* Task 1 makes 74565 of cell 0, a field in each half, and task 2 4294967295 of
+   cell 2. Task 3 swaps cell 0 into cell 2, and task 4 copies that to cell 3. */
+static void two_fields(struct test_case *made, uint32_t version)
+{
+    static const uint8_t rows[4][ROW_BYTES] = {
+        {0, 2, 5, 0, 0, 2, 1, 2, 0, 0, 0, 0,
+         1, 0, 0, 0, 255, 255, 1, 1, 0, 0, 1, 0, 3, 0, 1, 0, 0, 0, 1, 1, 0, 0, 69, 35, 3, 0, 1},
+        {1, 2, 3, 0, 1, 2, 2, 2, 0, 0, 0, 0, 1, 1, 0, 0, 1, 0, 1, 2, 0, 0, 0, 0, 4, 2, 1},
+        {2, 2, 1, 0, 0, 1, 2, 2, 0, 0, 0, 0, 5, 2, 0},
+        {0, 2, 1, 0, 2, 1, 3, 2, 0, 0, 0, 0, 2, 3, 2}};
+    struct sample flow = {version, 4, 3, 4, {0}};
+    memcpy(flow.rows, rows, sizeof rows);
+    put_flow(made, &flow);
+}
+
+static void two_fields_of_1(struct test_case *made)
+{
+    two_fields(made, 1);
+}
+
+static void two_fields_of_2(struct test_case *made)
+{
+    two_fields(made, 2);
+}
+
+/* ---- the version of a file --------------------------------------------- */
+
+static void put_version(struct test_case *made, uint32_t index, uint8_t byte)
+{
+    uint8_t *block = made->input + BLOCK_BYTES * index;
+    block[4] = byte;
+    put_check(block);
+}
+
+/* Flow A's file with a byte in the place of its version. */
+static void version_byte_0(struct test_case *made)
+{
+    flow_a(made);
+    put_version(made, 0, 0);
+}
+
+static void version_byte_2(struct test_case *made)
+{
+    flow_a(made);
+    put_version(made, 0, 2);
+}
+
+static void version_byte_3(struct test_case *made)
+{
+    flow_a(made);
+    put_version(made, 0, 3);
+}
+
+static void version_byte_255(struct test_case *made)
+{
+    flow_a(made);
+    put_version(made, 0, 255);
+}
+
+/* And the check is not put right. */
+static void version_byte_3_unchecked(struct test_case *made)
+{
+    flow_a(made);
+    made->input[4] = 3;
+}
+
+/* Three blocks, or 20, all of version 2. */
+static void three_of_2(struct test_case *made)
+{
+    full_blocks(made, 2, 3);
+}
+
+static void largest_of_2(struct test_case *made)
+{
+    full_blocks(made, 2, MOST_BLOCKS);
+}
+
+/* Blocks of version 1 with one of version 2, and the other way round. */
+static void block_1_of_2(struct test_case *made)
+{
+    full_blocks(made, 1, 2);
+    put_version(made, 1, 2);
+}
+
+static void block_1_of_1(struct test_case *made)
+{
+    full_blocks(made, 2, 2);
+    put_version(made, 1, 1);
+}
+
+static void block_0_of_2(struct test_case *made)
+{
+    full_blocks(made, 1, 3);
+    put_version(made, 0, 2);
+}
+
+static void block_0_of_1(struct test_case *made)
+{
+    full_blocks(made, 2, 3);
+    put_version(made, 0, 1);
+}
+
+static void block_2_of_2(struct test_case *made)
+{
+    full_blocks(made, 1, 3);
+    put_version(made, 2, 2);
+}
+
+static void last_of_2(struct test_case *made)
+{
+    full_blocks(made, 1, MOST_BLOCKS);
+    put_version(made, MOST_BLOCKS - 1, 2);
+}
+
+static void last_of_1(struct test_case *made)
+{
+    full_blocks(made, 2, MOST_BLOCKS);
+    put_version(made, MOST_BLOCKS - 1, 1);
+}
+
+/* Neither 1 nor 2, in the second block. */
+static void block_1_of_3(struct test_case *made)
+{
+    full_blocks(made, 2, 2);
+    put_version(made, 1, 3);
+}
+
+/* Block 1 is of the other version, and there is more at fault: its check; its
+   cells; the workers of block 0; the owner of task 1. */
+static void mixed_beside_2(struct test_case *made)
+{
+    block_1_of_2(made);
+    made->input[2 * BLOCK_BYTES - 1] ^= 1;
+}
+
+static void mixed_beside_4(struct test_case *made)
+{
+    block_1_of_2(made);
+    made->input[BLOCK_BYTES + 13] = 31;
+    put_check(made->input + BLOCK_BYTES);
+}
+
+static void mixed_after_4(struct test_case *made)
+{
+    block_1_of_2(made);
+    made->input[12] = 9;
+    put_check(made->input);
+}
+
+static void mixed_before_6(struct test_case *made)
+{
+    block_1_of_2(made);
+    made->input[16] = 8;
+    put_check(made->input);
+}
+
+/* ---- the version that the writer is told ------------------------------- */
+
+static void told_0(struct test_case *made)
+{
+    flow_a(made);
+    made->version = 0;
+}
+
+static void told_3(struct test_case *made)
+{
+    flow_a(made);
+    made->version = 3;
+}
+
+/* 1 or 2 in the low byte, in the low half, in the low three bytes. */
+static void told_257(struct test_case *made)
+{
+    flow_a(made);
+    made->version = 257;
+}
+
+static void told_65538(struct test_case *made)
+{
+    flow_a(made);
+    made->version = 65538;
+}
+
+static void told_16777217(struct test_case *made)
+{
+    flow_a(made);
+    made->version = 16777217;
+}
+
+static void told_4294967295(struct test_case *made)
+{
+    flow_a(made);
+    made->version = 4294967295;
+}
+
+/* Version 3, and besides: 201 rows; 9 workers; an owner that is no worker; a
+   cell of mode 2 that is not written; an output that is a byte short. */
+static void told_3_beside_15(struct test_case *made)
+{
+    rows_201(made);
+    made->version = 3;
+}
+
+static void told_3_beside_4(struct test_case *made)
+{
+    workers_9(made);
+    made->version = 3;
+}
+
+static void told_3_beside_6(struct test_case *made)
+{
+    told_3(made);
+    made->input[0] = 2;
+}
+
+static void told_3_beside_17(struct test_case *made)
+{
+    unwritten(made);
+    made->version = 3;
+}
+
+static void told_3_beside_16(struct test_case *made)
+{
+    short_output(made);
+    made->version = 3;
+}
+
 /* ---- the table --------------------------------------------------------- */
 
 #define START_A {0, 0, 5}
@@ -495,8 +774,8 @@ static void eight_workers(struct test_case *made)
 #define NONE_OF_7 NONE, NONE, NONE, NONE, NONE, NONE, NONE
 
 const struct named_case named_cases[] = {
-    {"flow A, total 22", CALL_CHECK, flow_a, "", START_A, {0, 0, 3, 2, 3, 22}, START_A},
-    {"flow A, read", CALL_READ, flow_a, "", START_A, {0, 0, 144, 3, 2, 3}, START_A},
+    {"flow A, total 22", CALL_CHECK, flow_a, "", START_A, {0, 0, 3, 2, 3, 22, 1}, START_A},
+    {"flow A, read", CALL_READ, flow_a, "", START_A, {0, 0, 144, 3, 2, 3, 1}, START_A},
     {"flow A, written", CALL_WRITE, flow_a, "", START_A, {0, 0, 512}, START_A},
     {"P1", CALL_PLAIN, flow_a, "", START_A, {0, 0}, {4660, 13330, 13335}},
     {"P2", CALL_RUN, flow_a, "", START_A, {0, 0, 0, 0, 0, 0, 0, 0, 0, NONE, NONE},
@@ -568,11 +847,11 @@ const struct named_case named_cases[] = {
      "00000000000000000000000000000000", START_A,
      {0, 0, 69, 8, 2, 0, 1, 4, 3, PAST, WRITE(10), READS(1), WRITE(20), READS(11), WRITE(31),
       READS(30), WRITE(0)}, START_A},
-    {"cells 30 and 31 of 32", CALL_CHECK, cells_30_and_31, "", {0}, {0, 0, 1, 1, 32, 7}, {0}},
+    {"cells 30 and 31 of 32", CALL_CHECK, cells_30_and_31, "", {0}, {0, 0, 1, 1, 32, 7, 1}, {0}},
     {"cell 31 named under modes 1 and 2", CALL_CHECK, cell_31_twice, "", {0}, {9, 1}, {0}},
     {"cell 31 of mode 2 read at once", CALL_CHECK, cell_31_read_at_once, "", {0}, {11, 1}, {0}},
     {"cell 31 of mode 2 read once written", CALL_CHECK, cell_31_read_once_written, "", {0},
-     {0, 0, 1, 1, 32, 6}, {0}},
+     {0, 0, 1, 1, 32, 6, 1}, {0}},
     {"cell 31 of mode 1 written", CALL_CHECK, cell_31_written, "", {0}, {11, 1}, {0}},
     {"task 1's write left out", CALL_CHECK, unwritten, "", START_A, {17, 1}, START_A},
     {"task 1's write left out, read", CALL_READ, unwritten, "", START_A, {17, 1}, START_A},
@@ -615,9 +894,9 @@ const struct named_case named_cases[] = {
      {17, 1}, {0}},
     {"mode 2 read and not written", CALL_CHECK, read_and_unwritten, "", {0}, {11, 1}, {0}},
     {"mode 2 written by the first of two operations", CALL_CHECK, written_by_the_first, "", {0},
-     {0, 0, 1, 1, 32, 10}, {0}},
+     {0, 0, 1, 1, 32, 10, 1}, {0}},
     {"mode 2 written by the last of six operations", CALL_CHECK, written_by_the_sixth, "", {0},
-     {0, 0, 1, 1, 32, 14}, {0}},
+     {0, 0, 1, 1, 32, 14, 1}, {0}},
     {"mode 2 written by the last of three operations", CALL_PLAIN, written_by_the_third, "",
      {5, 6}, {0, 0}, {14, 14}},
     {"mode 2 written by the last of three operations, run", CALL_RUN, written_by_the_third,
@@ -628,15 +907,16 @@ const struct named_case named_cases[] = {
      {17, 1}, {0}},
     {"mode 2 not written in the last of 200 tasks", CALL_CHECK, last_task_unwritten, "", {0},
      {17, 200}, {0}},
-    {"mode 3 not written", CALL_CHECK, mode_3_unwritten, "", {0}, {0, 0, 1, 1, 1, 4}, {0}},
-    {"mode 3 not written, read", CALL_READ, mode_3_unwritten, "", {0}, {0, 0, 48, 1, 1, 1}, {0}},
+    {"mode 3 not written", CALL_CHECK, mode_3_unwritten, "", {0}, {0, 0, 1, 1, 1, 4, 1}, {0}},
+    {"mode 3 not written, read", CALL_READ, mode_3_unwritten, "", {0}, {0, 0, 48, 1, 1, 1, 1},
+     {0}},
     {"mode 3 not written, written", CALL_WRITE, mode_3_unwritten, "", {0}, {0, 0, 512}, {0}},
     {"mode 3 not written, plain run", CALL_PLAIN, mode_3_unwritten, "", {7}, {0, 0}, {7}},
     {"mode 3 not written, run", CALL_RUN, mode_3_unwritten, "0000", {7}, {0, 0, 4, 0, 1, 1}, {7}},
-    {"mode 3 only read", CALL_CHECK, mode_3_only_read, "", {0}, {0, 0, 1, 1, 32, 9}, {0}},
+    {"mode 3 only read", CALL_CHECK, mode_3_only_read, "", {0}, {0, 0, 1, 1, 32, 9, 1}, {0}},
     {"200 tasks, 8 workers, 32 cells", CALL_CHECK, put_largest, "", {0},
-     {0, 0, 200, 8, 32, 5800}, {0}},
-    {"200 tasks, read", CALL_READ, put_largest, "", {0}, {0, 0, 9600, 200, 8, 32}, {0}},
+     {0, 0, 200, 8, 32, 5800, 1}, {0}},
+    {"200 tasks, read", CALL_READ, put_largest, "", {0}, {0, 0, 9600, 200, 8, 32, 1}, {0}},
     {"200 tasks, written", CALL_WRITE, put_largest, "", {0}, {0, 0, 10240}, {0}},
     {"201 tasks in 20 blocks", CALL_CHECK, tasks_201, "", {0}, {4, 0}, {0}},
     {"201 rows", CALL_WRITE, rows_201, "", {0}, {15, 0}, {0}},
@@ -657,6 +937,120 @@ const struct named_case named_cases[] = {
     {"schedule of 65,537 bytes", CALL_RUN, schedule_65537, NULL, START_A, {13, 0}, START_A},
     {"rows lent a byte short", CALL_READ, short_output, "", START_A, {16, 0}, START_A},
     {"output a byte short", CALL_WRITE, short_output, "", START_A, {16, 0}, START_A},
+
+    /* 02, Q-8: the swap in both versions */
+    {"operation 5 of version 1, run", CALL_RUN, operation_5, "0000000", {4294967295, 74565},
+     {0, 0, 7, 0, 1, 1}, {17699, 74565}},
+    {"operation 5 of version 2", CALL_PLAIN, operation_5_of_2, "", {4294967295, 74565}, {0, 0},
+     {83235, 74565}},
+    {"operation 5 of version 2, run", CALL_RUN, operation_5_of_2, "0000000", {4294967295, 74565},
+     {0, 0, 7, 0, 1, 1}, {83235, 74565}},
+    {"operation 5 of version 2, a step before it", CALL_RUN, operation_5_of_2, "000",
+     {4294967295, 74565}, {0, 0, 3, 0, 0, 0}, {4294967295, 74565}},
+    {"operation 5 of version 1, b's high half all ones", CALL_PLAIN, operation_5, "",
+     {0, 4294910789}, {0, 0}, {17699, 4294910789}},
+    {"operation 5 of version 2, b's high half all ones", CALL_PLAIN, operation_5_of_2, "",
+     {0, 4294910789}, {0, 0}, {4294919459, 4294910789}},
+    {"operation 5 of version 2, b's high half all ones, run", CALL_RUN, operation_5_of_2,
+     "0000000", {0, 4294910789}, {0, 0, 7, 0, 1, 1}, {4294919459, 4294910789}},
+    {"operation 5 of version 1, b's low half 0", CALL_PLAIN, operation_5, "",
+     {7, 4294901760}, {0, 0}, {0, 4294901760}},
+    {"operation 5 of version 2, b's low half 0", CALL_PLAIN, operation_5_of_2, "",
+     {7, 4294901760}, {0, 0}, {4294901760, 4294901760}},
+    {"operation 5 of version 2, b's high half 0", CALL_PLAIN, operation_5_of_2, "",
+     {4294967295, 9029}, {0, 0}, {17699, 9029}},
+    {"operation 5 of version 1, in place", CALL_PLAIN, in_place_of_1, "", {74565}, {0, 0},
+     {17699}},
+    {"operation 5 of version 1, in place, run", CALL_RUN, in_place_of_1, "00000", {74565},
+     {0, 0, 5, 0, 1, 1}, {17699}},
+    {"operation 5 of version 2, in place", CALL_PLAIN, in_place_of_2, "", {74565}, {0, 0},
+     {83235}},
+    {"operation 5 of version 2, in place, run", CALL_RUN, in_place_of_2, "00000", {74565},
+     {0, 0, 5, 0, 1, 1}, {83235}},
+    {"operation 5 of version 1, in place, high half all ones", CALL_PLAIN, in_place_of_1, "",
+     {4294910789}, {0, 0}, {17699}},
+    {"operation 5 of version 2, in place, high half all ones", CALL_PLAIN, in_place_of_2, "",
+     {4294910789}, {0, 0}, {4294919459}},
+    {"operation 5 of version 2 into mode 2", CALL_CHECK, swap_into_mode_2, "", {0},
+     {0, 0, 1, 1, 2, 7, 2}, {0}},
+    {"operation 5 of version 2 into mode 2, plain run", CALL_PLAIN, swap_into_mode_2, "",
+     {4294967295, 74565}, {0, 0}, {83235, 74565}},
+    {"operation 6 of version 2", CALL_CHECK, operation_6_of_2, "", {0}, {0, 0, 1, 1, 2, 7, 2},
+     {0}},
+    {"operation 6 of version 2, written", CALL_WRITE, operation_6_of_2, "", {0}, {0, 0, 512},
+     {0}},
+    {"operation 6 of version 2, plain run", CALL_PLAIN, operation_6_of_2, "", {3, 74565}, {0, 0},
+     {74565, 74565}},
+    {"two fields, total 46", CALL_CHECK, two_fields_of_2, "", {0}, {0, 0, 4, 3, 4, 46, 2}, {0}},
+    {"two fields", CALL_PLAIN, two_fields_of_2, "", {0}, {0, 0}, {74565, 1, 83235, 83235}},
+    {"two fields, version 1", CALL_PLAIN, two_fields_of_1, "", {0}, {0, 0},
+     {74565, 1, 17699, 17699}},
+    {"two fields, before the swap", CALL_RUN, two_fields_of_2, "0000000000000" "111111111111",
+     {0}, {0, 0, 25, 0, 2, 0}, {74565, 1, 4294967295, 0}},
+    {"two fields, run", CALL_RUN, two_fields_of_2,
+     "0000000000000" "111111111111" "222222222" "000000000" "11" "2", {0}, {0, 0, 46, 0, 4, 1},
+     {74565, 1, 83235, 83235}},
+    {"two fields, version 1, run", CALL_RUN, two_fields_of_1,
+     "0000000000000" "111111111111" "222222222" "000000000" "11" "2", {0}, {0, 0, 46, 0, 4, 1},
+     {74565, 1, 17699, 17699}},
+
+    /* the version of a file */
+    {"flow A of version 2", CALL_CHECK, flow_a_of_2, "", START_A, {0, 0, 3, 2, 3, 22, 2}, START_A},
+    {"flow A of version 2, read", CALL_READ, flow_a_of_2, "", START_A, {0, 0, 144, 3, 2, 3, 2},
+     START_A},
+    {"flow A of version 2, written", CALL_WRITE, flow_a_of_2, "", START_A, {0, 0, 512}, START_A},
+    {"P1 of version 2", CALL_PLAIN, flow_a_of_2, "", START_A, {0, 0}, {4660, 13330, 13335}},
+    {"P7 of version 2", CALL_RUN, flow_a_of_2, "0000001111111110000000", START_A,
+     {0, 0, 22, 0, 3, 1, 0, 0, 0, NONE, NONE}, {4660, 13330, 13335}},
+    {"30 tasks of version 2", CALL_CHECK, three_of_2, "", {0}, {0, 0, 30, 8, 32, 870, 2}, {0}},
+    {"200 tasks of version 2", CALL_CHECK, largest_of_2, "", {0}, {0, 0, 200, 8, 32, 5800, 2},
+     {0}},
+    {"200 tasks of version 2, read", CALL_READ, largest_of_2, "", {0},
+     {0, 0, 9600, 200, 8, 32, 2}, {0}},
+    {"200 tasks of version 2, written", CALL_WRITE, largest_of_2, "", {0}, {0, 0, 10240}, {0}},
+    {"version byte 0", CALL_CHECK, version_byte_0, "", START_A, {3, 0}, START_A},
+    {"version byte 2", CALL_CHECK, version_byte_2, "", START_A, {0, 0, 3, 2, 3, 22, 2}, START_A},
+    {"version byte 3", CALL_CHECK, version_byte_3, "", START_A, {3, 0}, START_A},
+    {"version byte 3, read", CALL_READ, version_byte_3, "", START_A, {3, 0}, START_A},
+    {"version byte 3, plain run", CALL_PLAIN, version_byte_3, "", START_A, {3, 0}, START_A},
+    {"version byte 3, run", CALL_RUN, version_byte_3, "000", START_A, {3, 0}, START_A},
+    {"version byte 255", CALL_CHECK, version_byte_255, "", START_A, {3, 0}, START_A},
+    {"version byte 3 and another check", CALL_CHECK, version_byte_3_unchecked, "", START_A,
+     {2, 0}, START_A},
+    {"block 1 of version 2 after version 1", CALL_CHECK, block_1_of_2, "", {0}, {3, 1}, {0}},
+    {"block 1 of version 2 after version 1, read", CALL_READ, block_1_of_2, "", {0}, {3, 1}, {0}},
+    {"block 1 of version 2 after version 1, plain run", CALL_PLAIN, block_1_of_2, "", {0},
+     {3, 1}, {0}},
+    {"block 1 of version 2 after version 1, run", CALL_RUN, block_1_of_2, "01", {0}, {3, 1}, {0}},
+    {"block 1 of version 1 after version 2", CALL_CHECK, block_1_of_1, "", {0}, {3, 1}, {0}},
+    {"block 1 of version 1 after version 2, read", CALL_READ, block_1_of_1, "", {0}, {3, 1}, {0}},
+    {"block 1 of version 1 after version 2, plain run", CALL_PLAIN, block_1_of_1, "", {0},
+     {3, 1}, {0}},
+    {"block 1 of version 1 after version 2, run", CALL_RUN, block_1_of_1, "01", {0}, {3, 1}, {0}},
+    {"block 0 alone of version 2", CALL_CHECK, block_0_of_2, "", {0}, {3, 1}, {0}},
+    {"block 0 alone of version 1", CALL_CHECK, block_0_of_1, "", {0}, {3, 1}, {0}},
+    {"the last of three blocks of version 2", CALL_CHECK, block_2_of_2, "", {0}, {3, 2}, {0}},
+    {"the last of 20 blocks of version 2", CALL_CHECK, last_of_2, "", {0}, {3, 19}, {0}},
+    {"the last of 20 blocks of version 1", CALL_READ, last_of_1, "", {0}, {3, 19}, {0}},
+    {"block 1 of version 3", CALL_CHECK, block_1_of_3, "", {0}, {3, 1}, {0}},
+    {"another version beside 2 in block 1", CALL_CHECK, mixed_beside_2, "", {0}, {2, 1}, {0}},
+    {"another version beside 4 in block 1", CALL_CHECK, mixed_beside_4, "", {0}, {3, 1}, {0}},
+    {"another version after 4 in block 0", CALL_CHECK, mixed_after_4, "", {0}, {4, 0}, {0}},
+    {"another version before 6 at task 1", CALL_CHECK, mixed_before_6, "", {0}, {3, 1}, {0}},
+
+    /* the version that the writer is told */
+    {"writer told version 0", CALL_WRITE, told_0, "", START_A, {22, 0}, START_A},
+    {"writer told version 3", CALL_WRITE, told_3, "", START_A, {22, 0}, START_A},
+    {"writer told version 257", CALL_WRITE, told_257, "", START_A, {22, 0}, START_A},
+    {"writer told version 65,538", CALL_WRITE, told_65538, "", START_A, {22, 0}, START_A},
+    {"writer told version 16,777,217", CALL_WRITE, told_16777217, "", START_A, {22, 0}, START_A},
+    {"writer told version 4,294,967,295", CALL_WRITE, told_4294967295, "", START_A, {22, 0},
+     START_A},
+    {"22 beside 15", CALL_WRITE, told_3_beside_15, "", {0}, {15, 0}, {0}},
+    {"22 beside 4", CALL_WRITE, told_3_beside_4, "", {0}, {22, 0}, {0}},
+    {"22 beside 6", CALL_WRITE, told_3_beside_6, "", START_A, {22, 0}, START_A},
+    {"22 beside 17", CALL_WRITE, told_3_beside_17, "", START_A, {22, 0}, START_A},
+    {"22 beside 16", CALL_WRITE, told_3_beside_16, "", START_A, {22, 0}, START_A},
 };
 
 const uint32_t named_case_count = sizeof named_cases / sizeof named_cases[0];

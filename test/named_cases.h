@@ -8,14 +8,16 @@
 
 #include "cases.h"
 
+enum { NAMED_CELLS = 4 };
+
 struct named_case {
     const char *name;
     uint32_t call;
     void (*make)(struct test_case *made); /* the file or the rows */
     const char *schedule;                 /* a digit for each byte */
-    uint32_t start[3];
+    uint32_t start[NAMED_CELLS];          /* the first cells; all others are 0 */
     uint32_t answer[MOST_ANSWER_WORDS];
-    uint32_t cells[3]; /* after the call */
+    uint32_t cells[NAMED_CELLS]; /* after the call */
 };
 
 extern const struct named_case named_cases[];

@@ -1,8 +1,8 @@
 /*
- * The named cases, the flows that take longest, flow A written and read, and how
- * long a worker is kept waiting, on the reference and, where it is linked, on
- * the library; the sums of the check on the reference. A line for each that goes
- * wrong, then a count.
+ * The named cases, the flows that take longest, flow A written and read in both
+ * versions, other versions, and how long a worker is kept waiting, on the
+ * reference and, where it is linked, on the library; the sums of the check on
+ * the reference. A line for each that goes wrong, then a count.
  */
 #include "lent.h"
 #include "named_cases.h"
@@ -39,7 +39,8 @@ static bool as_written(const struct named_case *from)
     if (!answers(from->answer))
         return false;
     if (made.call == CALL_PLAIN || made.call == CALL_RUN) {
-        size_t length = made.output_len < 12 ? made.output_len : 12;
+        size_t most = sizeof from->cells;
+        size_t length = made.output_len < most ? made.output_len : most;
         return memcmp(memory.output.at, from->cells, length) == 0;
     }
     return true;
@@ -70,24 +71,94 @@ static void try_longest_cases(const struct calls *calls)
     }
 }
 
-/* What is written is the file, and what is read are the rows. */
-static void try_flow_a(const struct calls *calls)
+/* What is written is the file, and what is read are the rows and the version. */
+static void try_flow_a(const struct calls *calls, uint32_t version)
 {
     struct sample flow;
     uint8_t file[BLOCK_BYTES];
-    uint8_t bytes[BLOCK_BYTES] = {0};
+    uint8_t written_file[BLOCK_BYTES] = {0};
+    uint8_t rows[BLOCK_BYTES];
     sflw_write_answer written;
     sflw_read_answer read;
 
     make_flow_a(&flow);
+    flow.version = version;
     size_t length = make_file(&flow, file);
-    calls->write(flow.rows, 3 * ROW_BYTES, 2, 3, bytes, sizeof bytes, &written);
-    expect(memcmp(bytes, file, length) == 0, calls->name, "the file of flow A");
-    memset(bytes, 0xee, sizeof bytes);
-    calls->read(file, length, bytes, sizeof bytes, &read);
-    expect(memcmp(bytes, flow.rows, 3 * ROW_BYTES) == 0, calls->name, "the rows of flow A");
-    expect(bytes[3 * ROW_BYTES] == 0xee, calls->name, "the rest stays");
+    calls->write(flow.rows, 3 * ROW_BYTES, version, 2, 3, written_file, length, &written);
+    expect(memcmp(written_file, file, length) == 0, calls->name, "the file of flow A");
+    memset(rows, 0xee, sizeof rows);
+    calls->read(written_file, length, rows, sizeof rows, &read);
+    expect(memcmp(rows, flow.rows, 3 * ROW_BYTES) == 0, calls->name, "the rows of flow A");
+    expect(read.version == version, calls->name, "the version of flow A");
+    expect(rows[3 * ROW_BYTES] == 0xee, calls->name, "the rest stays");
 }
+
+/* ---- other versions ---------------------------------------------------- */
+
+static bool is_version(uint32_t version)
+{
+    return version == 1 || version == 2;
+}
+
+/* Every byte as the version of one block of a file: it is refused there with 3
+   unless it may be in that block. */
+static void try_bytes(const struct calls *calls, const struct sample *flow, uint32_t index)
+{
+    uint8_t *block = made.input + BLOCK_BYTES * index;
+    size_t length = make_file(flow, made.input);
+    sflw_check_answer checked;
+    bool right = true;
+
+    for (uint32_t byte = 0; byte < 256; byte++) {
+        bool taken = index == 0 ? is_version(byte) : byte == flow->version;
+        block[4] = (uint8_t)byte;
+        put_check(block);
+        calls->check(made.input, length, &checked);
+        right &= checked.number == (taken ? 0 : 3) && checked.place == (taken ? 0 : index) &&
+                 checked.version == (taken ? byte : 0);
+    }
+    expect(right, calls->name, "every byte as a block's version");
+}
+
+/* In a file of one block, and in the second and the last of three. */
+static void try_blocks(const struct calls *calls, uint32_t version)
+{
+    struct random random = random_of_case(8, version);
+    struct sample flow;
+
+    make_flow(&random, &flow, 10, 2, 3);
+    flow.version = version;
+    try_bytes(calls, &flow, 0);
+    make_flow(&random, &flow, 30, 2, 3);
+    flow.version = version;
+    try_bytes(calls, &flow, 1);
+    try_bytes(calls, &flow, 2);
+}
+
+static bool told_right(const struct calls *calls, uint32_t version)
+{
+    struct sample flow;
+    sflw_write_answer written;
+
+    make_flow_a(&flow);
+    calls->write(flow.rows, 3 * ROW_BYTES, version, 2, 3, made.output, BLOCK_BYTES, &written);
+    return written.number == (is_version(version) ? 0 : 22) && written.place == 0;
+}
+
+/* The writer is told numbers below 1,000, and some after each power of two. */
+static void try_told(const struct calls *calls)
+{
+    bool right = told_right(calls, UINT32_MAX);
+
+    for (uint32_t number = 0; number < 1000; number++)
+        right &= told_right(calls, number);
+    for (uint32_t bit = 0; bit < 32; bit++)
+        for (uint32_t more = 0; more < 4; more++)
+            right &= told_right(calls, (UINT32_C(1) << bit) + more);
+    expect(right, calls->name, "any number as the writer's version");
+}
+
+/* ---- sums -------------------------------------------------------------- */
 
 /* P9, and the sums over "abcdef" and "abcdefgh" that are published with the
    one over "abcde". */
@@ -106,7 +177,11 @@ static void try_all(const struct calls *calls)
 {
     try_named_cases(calls);
     try_longest_cases(calls);
-    try_flow_a(calls);
+    for (uint32_t version = 1; version <= MOST_VERSION; version++) {
+        try_flow_a(calls, version);
+        try_blocks(calls, version);
+    }
+    try_told(calls);
     wrong_waits += try_waiting(calls, &made, &memory);
 }
 

@@ -110,13 +110,15 @@ struct longest longest_at(uint32_t index)
 }
 
 /* Cells 0 to 3 become 1 to 4; then cell 0 what cell 1 is, and cell 1 the sum of
-   cells 1 and 2. */
+   cells 1 and 2. None of this goes by the version: the flow is of version 1 with
+   an odd number of workers, else of version 2. */
 static void make_longest_flow(struct sample *flow, uint32_t tasks, uint32_t workers)
 {
     static const uint8_t row[ROW_BYTES] = {0, 4, 6, 0, 0, 2, 1, 2, 2, 2, 3, 2,
                                            1, 0, 0, 0, 1, 0, 1, 1, 0, 0, 2, 0,
                                            1, 2, 0, 0, 3, 0, 1, 3, 0, 0, 4, 0,
                                            2, 0, 1, 0, 0, 0, 3, 1, 2, 0, 0, 0};
+    flow->version = 2 - workers % 2;
     flow->tasks = tasks;
     flow->workers = workers;
     flow->cells = LONGEST_CELLS;
@@ -161,6 +163,7 @@ void make_longest_case(const struct longest *from, struct test_case *made)
     made->known = true;
     made->number = 0;
     made->place = 0;
+    made->version = flow.version;
     made->workers = from->workers;
     made->cells = LONGEST_CELLS;
     made->input_len = make_file(&flow, made->input);

@@ -13,9 +13,9 @@
  * and the crate vectors reads it. All numbers are four bytes, low byte first.
  * The number of cases stands first. A case is
  *
- *     its head, 32 numbers:
+ *     its head, 33 numbers:
  *         its call: 1 check, 2 read, 3 write, 4 plain, 5 run
- *         the writer's workers, and its cells; 0 for the other calls
+ *         the writer's version, its workers and its cells; 0 for the other calls
  *         the bytes of the input: the file, or the writer's rows
  *         the bytes lent for writing: rows, out, or four for each cell; 0 for
  *         check
@@ -42,12 +42,13 @@
 #include <stdlib.h>
 #include <string.h>
 
-enum { NUMBERS = 18, REASONS = 4, LARGEST = 3, TOO_LONG = 24, LONGEST = 27, STRETCHES = 16 };
+enum { REASONS = 4, LARGEST = 6, TOO_LONG = 24, LONGEST = 27, STRETCHES = 16 };
 
 static const struct calls reference = REFERENCE_CALLS;
 static struct memory memory;
 static struct test_case current;
-static uint32_t met[NUMBERS];
+static uint32_t met[MOST_NUMBER + 1];
+static uint32_t versions[MOST_VERSION + 1]; /* of accepted files, and of written ones */
 static uint32_t latest[REASONS]; /* of the workers of accepted runs */
 static uint64_t written;
 
@@ -106,6 +107,7 @@ static void put_head(size_t stored)
     bool writes = current.call == CALL_WRITE;
 
     put_number(current.call);
+    put_number(writes ? current.version : 0);
     put_number(writes ? current.workers : 0);
     put_number(writes ? current.cells : 0);
     put_number((uint32_t)current.input_len);
@@ -116,11 +118,14 @@ static void put_head(size_t stored)
         put_number(i < answer_words(current.call) ? answer_at(&memory, i) : 0);
 }
 
-/* Which numbers and reasons the case meets. */
+/* Which numbers, versions and reasons the case meets. */
 static void count_case(void)
 {
     met[memory.returned]++;
-    if (current.call != CALL_RUN || memory.returned != 0)
+    if (memory.returned != 0)
+        return;
+    versions[current.call == CALL_WRITE ? current.version : current.input[4]]++;
+    if (current.call != CALL_RUN)
         return;
     sflw_run_answer run = run_answer(&memory);
     for (uint32_t i = 0; i < current.input[12]; i++)
@@ -132,7 +137,7 @@ static void put_case(void)
     size_t stored;
 
     call_case(&reference, &current, IN_THE_MIDDLE, 0, &memory);
-    if (misdeed(&memory, &current) != NULL || memory.returned >= NUMBERS ||
+    if (misdeed(&memory, &current) != NULL ||
         (current.known && (memory.returned != current.number ||
                            answer_at(&memory, 1) != current.place))) {
         fprintf(stderr, "vectors: the reference is wrong on: %s\n", current.kind);
@@ -180,13 +185,14 @@ static void put_run_largest(uint32_t steps)
     put_case();
 }
 
-static void put_largest(void)
+static void put_largest(uint32_t version)
 {
     static uint8_t file[MOST_FILE];
     struct random random = random_of_case(9450, 1);
     struct sample flow;
 
     make_flow(&random, &flow, MOST_TASKS, MOST_WORKERS, MOST_CELLS);
+    flow.version = version;
     put_plain_largest(file, make_file(&flow, file));
     put_run_largest(3000);
     put_run_largest(20000);
@@ -257,8 +263,11 @@ static void put_under_stretches(uint64_t seed)
 static void report(uint64_t cases)
 {
     fprintf(stderr, "vectors: %" PRIu64 " cases, %" PRIu64 " bytes; met:", cases, written);
-    for (uint32_t number = 0; number < NUMBERS; number++)
-        fprintf(stderr, " %" PRIu32 ":%" PRIu32, number, met[number]);
+    for (uint32_t i = 0; i < NUMBERS; i++)
+        fprintf(stderr, " %u:%" PRIu32, numbers[i], met[numbers[i]]);
+    fprintf(stderr, "; versions:");
+    for (uint32_t version = 1; version <= MOST_VERSION; version++)
+        fprintf(stderr, " %" PRIu32 ":%" PRIu32, version, versions[version]);
     fprintf(stderr, "; latest reasons:");
     for (uint32_t reason = 0; reason < REASONS; reason++)
         fprintf(stderr, " %" PRIu32 ":%" PRIu32, reason, latest[reason]);
@@ -280,7 +289,8 @@ int main(int count, char **arguments)
         make_named_case(&named_cases[i], &current);
         put_case();
     }
-    put_largest();
+    for (uint32_t version = 1; version <= MOST_VERSION; version++)
+        put_largest(version);
     put_too_long(seed);
     put_longest();
     put_under_stretches(seed);

@@ -97,13 +97,15 @@ static void try_stretch(size_t prefix)
 
 /* ---- the flows --------------------------------------------------------- */
 
-/* A small flow of few cells, so that workers wait, and any start. */
+/* A small flow of few cells, so that workers wait, and any start. Every other
+   flow is of version 2. */
 static void make_waiting_flow(void)
 {
     struct sample flow;
 
     workers = between(&random, 1, MOST_WORKERS);
     make_flow(&random, &flow, between(&random, 1, 10), workers, between(&random, 1, 3));
+    flow.version = 1 + tried.flow % 2;
     total = total_of(&flow);
     made->call = CALL_RUN;
     made->kind = "kept waiting";

@@ -46,7 +46,13 @@ fn begins(bytes: &[u8], given: &[u8], size: usize) -> bool {
 // Makes the rows a file, and answers its length.
 pub(crate) fn make(setting: Setting, rows: &[u8], file: &mut [u8]) -> usize {
     let size = least(setting.rows, rows.len());
-    let answer = writer::write(&rows[0..size], setting.workers, setting.cells, file);
+    let answer = writer::write(
+        &rows[0..size],
+        setting.version,
+        setting.workers,
+        setting.cells,
+        file,
+    );
     octets::offset(answer.bytes)
 }
 
@@ -55,6 +61,7 @@ pub(crate) fn write(setting: Setting, rows: &[u8], file: &mut [u8]) {
     let room = least(setting.into, file.len());
     let answer = writer::write(
         &rows[0..size],
+        setting.version,
         setting.workers,
         setting.cells,
         &mut file[0..room],

@@ -12,7 +12,7 @@ use libc::STDIN_FILENO;
 fn main() {
     vectors::run();
     let rows = flows::rows();
-    let mut space = [0u8; 16384];
+    let mut space = [0u8; 20480];
     let lent: &mut [u8] = &mut space;
     let size = io::read_full(STDIN_FILENO, lent);
     if size == lent.len() {

@@ -34,23 +34,24 @@ fn written_bytes(bytes: u32) {
     }
 }
 
-fn sizes(tasks: u32, workers: u32, cells: u32) {
-    if (tasks != 0) | (workers != 0) | (cells != 0) {
+fn sizes(tasks: u32, workers: u32, cells: u32, version: u32) {
+    if (tasks != 0) | (workers != 0) | (cells != 0) | (version != 0) {
         named(b"tasks", tasks);
         named(b"workers", workers);
         named(b"cells", cells);
+        named(b"version", version);
     }
 }
 
 pub(crate) fn checked(answer: CheckAnswer) {
     answered(answer.number, answer.place);
-    sizes(answer.tasks, answer.workers, answer.cells);
+    sizes(answer.tasks, answer.workers, answer.cells, answer.version);
 }
 
 pub(crate) fn read(answer: ReadAnswer) {
     answered(answer.number, answer.place);
     written_bytes(answer.bytes);
-    sizes(answer.tasks, answer.workers, answer.cells);
+    sizes(answer.tasks, answer.workers, answer.cells, answer.version);
 }
 
 pub(crate) fn written(answer: WriteAnswer) {

@@ -11,10 +11,11 @@ ghost use lib.ListN.{length};
 // The bytes of one block more than a file may have.
 const FILE: usize = Flow::MAX_BYTES + 512;
 
-// What the words so far have set: the bytes of rows, the workers and cells, the bytes that are lent, the file's length, and
+// What the words so far have set: the bytes of rows, the version, the workers and cells, the bytes that are lent, the file's length, and
 // whether a file is made.
 pub(crate) struct Setting {
     pub(crate) rows: usize,
+    pub(crate) version: u32,
     pub(crate) workers: u32,
     pub(crate) cells: u32,
     pub(crate) into: usize,
@@ -26,6 +27,7 @@ impl Setting {
     fn new() -> Setting {
         Setting {
             rows: 144,
+            version: 1,
             workers: 2,
             cells: 3,
             into: 600,
@@ -38,6 +40,7 @@ impl Setting {
     fn with(mut self, name: u8, n: u32) -> Setting {
         match name {
             b'r' => self.rows = octets::offset(n),
+            b'v' => self.version = n,
             b'w' => self.workers = n,
             b'c' => self.cells = n,
             b'i' => self.into = octets::offset(n),

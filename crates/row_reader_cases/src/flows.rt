@@ -27,7 +27,7 @@ pub(crate) fn file_a() -> [u8; 512] {
     let mut rows = [0u8; 144];
     lay_a(&mut rows);
     let mut file = [0u8; 512];
-    writer::write(&rows, 2, 3, &mut file);
+    writer::write(&rows, Flow::VERSION_1, 2, 3, &mut file);
     file
 }
 
@@ -59,6 +59,6 @@ pub(crate) fn largest_file() -> [u8; Flow::MAX_BYTES] {
     let mut rows = [0u8; Flow::MAX_ROW_BYTES];
     lay_rows(&mut rows);
     let mut file = [0u8; Flow::MAX_BYTES];
-    writer::write(&rows, 2, 1, &mut file);
+    writer::write(&rows, Flow::VERSION_2, 2, 1, &mut file);
     file
 }

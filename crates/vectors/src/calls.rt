@@ -32,20 +32,20 @@ fn answered(returned: u32, words: &[u32]) -> Answer {
 }
 
 fn check(file: &[u8]) -> Answer {
-    let mut words = [MARK; 6];
+    let mut words = [MARK; 7];
     let returned = sflw::sflw_check(file, &mut words);
     answered(returned, &words)
 }
 
 fn read(file: &[u8], rows: &mut [u8]) -> Answer {
-    let mut words = [MARK; 6];
+    let mut words = [MARK; 7];
     let returned = sflw::sflw_read(file, rows, &mut words);
     answered(returned, &words)
 }
 
-fn write(rows: &[u8], workers: u32, cells: u32, out: &mut [u8]) -> Answer {
+fn write(rows: &[u8], version: u32, workers: u32, cells: u32, out: &mut [u8]) -> Answer {
     let mut words = [MARK; 3];
-    let returned = sflw::sflw_write(rows, workers, cells, out, &mut words);
+    let returned = sflw::sflw_write(rows, version, workers, cells, out, &mut words);
     answered(returned, &[words[0], words[1], words[2]])
 }
 
@@ -101,7 +101,7 @@ pub(crate) fn make(head: Head, input: &[u8], lent: &mut [u8], schedule: &[u8]) -
     match call {
         1 => check(input),
         2 => read(input, lent),
-        3 => write(input, head.workers, head.cells, lent),
+        3 => write(input, head.version, head.workers, head.cells, lent),
         _ => run_on_bytes(call, input, lent, schedule),
     }
 }

@@ -8,16 +8,20 @@ pub(crate) const ROOM: usize = 16384;
 
 pub(crate) const ROOM_SCHEDULE: usize = 70000;
 
-// The words of the longest answer, and the bytes of a head: seven numbers and those words.
+// The words of the longest answer, and the bytes of a head: eight numbers and those words.
 pub(crate) const WORDS: usize = 25;
 
-const SIZE: usize = 128;
+const SIZE: usize = 132;
+
+// The largest number that a call answers.
+pub(crate) const MOST: usize = 22;
 
 pub(crate) struct Head {
     // Whether the data had a whole head.
     pub(crate) whole: bool,
     // 1 check, 2 read, 3 write, 4 plain, 5 run.
     pub(crate) call: u32,
+    pub(crate) version: u32,
     pub(crate) workers: u32,
     pub(crate) cells: u32,
     pub(crate) input: usize,
@@ -30,7 +34,7 @@ pub(crate) struct Head {
 fn words(bytes: &[u8; SIZE]) -> [u32; WORDS] {
     let all = &bytes[..];
     let mut words = [0u32; WORDS];
-    numbers::take_all(&all[28..128], &mut words);
+    numbers::take_all(&all[32..132], &mut words);
     words
 }
 
@@ -46,12 +50,13 @@ impl Head {
         Head {
             whole: whole,
             call: numbers::number(bytes, 0),
-            workers: numbers::number(bytes, 4),
-            cells: numbers::number(bytes, 8),
-            input: size(bytes, 12),
-            lent: size(bytes, 16),
-            schedule: size(bytes, 20),
-            stored: size(bytes, 24),
+            version: numbers::number(bytes, 4),
+            workers: numbers::number(bytes, 8),
+            cells: numbers::number(bytes, 12),
+            input: size(bytes, 16),
+            lent: size(bytes, 20),
+            schedule: size(bytes, 24),
+            stored: size(bytes, 28),
             answer: answer,
         }
     }
@@ -80,7 +85,7 @@ impl Head {
     // Whether it can be the head of a case.
     pub(crate) fn is_sound(self) -> bool {
         let first = self.answer[0];
-        let known = (1 <= self.call) & (self.call <= 5) & (first <= 17);
+        let known = (1 <= self.call) & (self.call <= 5) & (octets::offset(first) <= MOST);
         known & self.has_room() & self.has_schedule() & self.has_cells()
     }
 }

@@ -1,4 +1,5 @@
 // The lines that the program writes.
+use crate::tally::NUMBERS;
 use libc::STDOUT_FILENO;
 
 fn text(words: &[u8]) {
@@ -59,12 +60,15 @@ pub(crate) fn calls(counts: &[u32; 6]) {
     cases_of(5, counts[5]);
 }
 
-// A line for each number with how often it was answered.
-pub(crate) fn numbers(counts: &[u32; 18]) {
+// A line for each number that was answered, with how often.
+pub(crate) fn numbers(counts: &[u32; NUMBERS]) {
     let mut number = 0;
-    while number < 18 {
-        pair(b"number ", number);
-        counted(b" met ", counts[octets::offset(number)]);
+    while number < NUMBERS as u32 {
+        let count = counts[octets::offset(number)];
+        if count != 0 {
+            pair(b"number ", number);
+            counted(b" met ", count);
+        }
         number += 1;
     }
 }

@@ -1,12 +1,16 @@
 // How many cases of each call there were, how often each number was answered, and how many cases held.
 use crate::case::Outcome;
+use crate::head;
 use crate::head::Head;
 use crate::say;
+
+// A count for each number up to the largest.
+pub(crate) const NUMBERS: usize = head::MOST + 1;
 
 pub(crate) struct Tally {
     // By the call's number; none has 0.
     calls: [u32; 6],
-    numbers: [u32; 18],
+    numbers: [u32; NUMBERS],
     held: u32,
     differed: u32,
 }
@@ -19,7 +23,7 @@ impl Tally {
     pub(crate) fn new() -> Tally {
         Tally {
             calls: [0; 6],
-            numbers: [0; 18],
+            numbers: [0; NUMBERS],
             held: 0,
             differed: 0,
         }
@@ -33,7 +37,7 @@ impl Tally {
     }
 
     fn with_number(mut self, number: usize) -> Tally {
-        if number < 18 {
+        if number < NUMBERS {
             self.numbers[number] = one_more(self.numbers[number]);
         }
         self
