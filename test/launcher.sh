@@ -94,6 +94,9 @@ esac
 TEXT
 }
 
+# The verbs beside run that take a flow from standard input. Each is a program, sflw_VERB.
+others=(held check longest)
+
 # The tree: the launcher, a library for C, its programs, a crate below them and one that nothing rests on.
 plant() {
     local name
@@ -102,14 +105,15 @@ plant() {
     cp "$top/sflw" "$tree/"
     cp "$top/include/sflw.h" "$tree/include/"
     printf '# a tree: for the launcher\nlow:\nother: low\nsflw: low\n' >"$tree/crates.txt"
-    for name in sflw_run sflw_held sflw_longest "${worked[@]}"; do
+    for name in sflw_run "${others[@]/#/sflw_}" "${worked[@]}"; do
         echo "$name : low io # a program" >>"$tree/crates.txt"
         mkdir -p "$tree/crates/$name/src"
         program >"$tree/crates/$name/src/main.rt"
         echo "ran " >"$tree/crates/$name/stdout"
     done
-    sed -i 's/"ran /"held /' "$tree/crates/sflw_held/src/main.rt"
-    sed -i 's/"ran /"longest /' "$tree/crates/sflw_longest/src/main.rt"
+    for name in "${others[@]}"; do
+        sed -i "s/\"ran /\"$name /" "$tree/crates/sflw_$name/src/main.rt"
+    done
     for name in low other sflw; do
         mkdir -p "$tree/crates/$name/src" "$tree/crates/$name/must-fail"
         echo 1 | tee "$tree/crates/$name/src/lib.rt" >"$tree/crates/$name/src/more.rt"
@@ -126,6 +130,7 @@ go() { "$tree/sflw" run <<<"$1"; }
 
 # What a verb says and writes, and the status it gives. What is about to be done is said before it is done.
 statuses() {
+    local verb
     SLOW=20 try 124 timeout 4 "$tree/sflw" run </dev/null && wrote
     said 1 "sflw: proving sflw_run and all below, 2 of 2 crates: about a minute on two cores"
     try 0 go first && wrote 'ran first\n' && asked 1 && said 1 "proving sflw_run"
@@ -137,12 +142,11 @@ statuses() {
     try 0 "$tree/sflw" && said 0
     try 2 "$tree/sflw" walk && wrote
     try 2 "$tree/sflw" run fast && wrote && said 1 "standard input"
-    try 0 "$tree/sflw" held <<<first && wrote 'held first\n' && asked 1 && said 1 "proving sflw_held"
-    try 1 "$tree/sflw" held <<<refuse && wrote 'refused 4 place 0\n' && asked 0 && said 0
-    try 2 "$tree/sflw" held fast && wrote && said 1 "standard input"
-    try 0 "$tree/sflw" longest <<<first && wrote 'longest first\n' && asked 1 && said 1 "proving sflw_longest"
-    try 1 "$tree/sflw" longest <<<refuse && wrote 'refused 4 place 0\n' && asked 0 && said 0
-    try 2 "$tree/sflw" longest fast && wrote && said 1 "standard input"
+    for verb in "${others[@]}"; do
+        try 0 "$tree/sflw" "$verb" <<<first && wrote "$verb first\n" && asked 1 && said 1 "proving sflw_$verb"
+        try 1 "$tree/sflw" "$verb" <<<refuse && wrote 'refused 4 place 0\n' && asked 0 && said 0
+        try 2 "$tree/sflw" "$verb" fast && wrote && said 1 "standard input"
+    done
     try 0 "$tree/sflw" lib && wrote "libsflw.a and sflw.h are in $tree/target/staticlib\n" && asked 1 && said 1 "proving the library"
     try 0 "$tree/sflw" lib && wrote "libsflw.a and sflw.h are in $tree/target/staticlib\n" && asked 0 && said 0
     try 0 "$tree/sflw" cases && wrote "$(printf 'ran \\n%.0s' "${worked[@]}")" && asked 1 && said 1 "proving ${worked[0]}, "
@@ -230,9 +234,9 @@ refuses() {
     grep -qx 'refused [0-9]* place [0-9]*' "$room/out" || wrong "a damaged flow is not refused in one line"
 }
 
-# A flow is run, at once where nothing is to be proved, its held steps and its worst case are told; a damaged one is refused; a touched source is looked at.
+# A flow is run, at once where nothing is to be proved, and each other verb tells of it; a damaged one is refused; a touched source is looked at.
 here() {
-    local flow="$top/examples/flow-a.sflw" lines began
+    local flow="$top/examples/flow-a.sflw" lines began verb
     lines="$(stored sflw_run)"
     try 0 "$top/sflw" run <"$flow" && wrote "$lines"
     [ "$(wc -l <"$room/err")" -le 1 ] || wrong "standard error has more than a line"
@@ -242,10 +246,10 @@ here() {
     [ $((${EPOCHREALTIME/[.,]/} - began)) -lt 300000 ] || wrong "a run with nothing to prove does not start at once"
     sed 's/^SFLW/SFLV/' "$flow" >"$room/damaged"
     refuses run
-    try 0 "$top/sflw" held <"$top/crates/sflw_held/stdin" && wrote "$(stored sflw_held)"
-    refuses held
-    try 0 "$top/sflw" longest <"$top/crates/sflw_longest/stdin" && wrote "$(stored sflw_longest)"
-    refuses longest
+    for verb in "${others[@]}"; do
+        try 0 "$top/sflw" "$verb" <"$top/crates/sflw_$verb/stdin" && wrote "$(stored "sflw_$verb")"
+        refuses "$verb"
+    done
     touch "$top/crates/sflw_run/src/main.rt" "$room/before"
     try 0 "$top/sflw" run <"$flow" && wrote "$lines"
     [ "$top/target/proved/sflw_run" -nt "$room/before" ] || wrong "a touched source is not looked at"
