@@ -3,7 +3,8 @@
 use mathlib.Core.Path.{_≡_, refl, ap}
 use mathlib.Core.Bool.{Bool, true, false, cond}
 use Prim.Native.Nat.{ℕ}
-use native.Mathlib.Omega.{arith}
+use borrow.Author.Tests.{eqb-false}
+use lib.Dec.{eqb}
 use Rattle.layout.specs.Flow.{knownVersion, inRange}
 use Rattle.flow.specs.Made.{FlowAnswer, stated, refused, statedBy, askedFor}
 use Rattle.flow.specs.declared.Flow.{Flow}
@@ -22,23 +23,9 @@ pub record MadeAs (flow : Flow) (version tasks workers cells : ℕ) : Type 0 whe
 numbers : {a b : FlowAnswer} → a ≡ b → a .number ≡ b .number
 numbers e = ap (λ (s : FlowAnswer). s .number) e
 
-no-0-4 : {A : Type 0} → _≡_ {A = ℕ} 0 4 → A
-no-0-4 e = absurd (omega arith)
-
-no-0-22 : {A : Type 0} → _≡_ {A = ℕ} 0 22 → A
-no-0-22 e = absurd (omega arith)
-
-no-4-22 : {A : Type 0} → _≡_ {A = ℕ} 4 22 → A
-no-4-22 e = absurd (omega arith)
-
-no-4-0 : {A : Type 0} → _≡_ {A = ℕ} 4 0 → A
-no-4-0 e = absurd (omega arith)
-
-no-22-0 : {A : Type 0} → _≡_ {A = ℕ} 22 0 → A
-no-22-0 e = absurd (omega arith)
-
-no-22-4 : {A : Type 0} → _≡_ {A = ℕ} 22 4 → A
-no-22-4 e = absurd (omega arith)
+-- two numbers that differ are not the same
+differ : {A : Type 0} {n m : ℕ} → eqb n m ≡ false → n ≡ m → A
+differ apart same = absurd (eqb-false _ _ apart same)
 
 module _ (version tasks workers cells : ℕ) where
   -- the answer, by what the two tests give
@@ -59,15 +46,15 @@ module _ (version tasks workers cells : ℕ) where
             workers-is = ap (λ (s : FlowAnswer). s .workers) p;
             cells-is = ap (λ (s : FlowAnswer). s .cells) p;
           }
-      go true false known range p = no-0-4 (numbers p)
-      go false r known range p = no-0-22 (numbers p)
+      go true false known range p = differ refl (numbers p)
+      go false r known range p = differ refl (numbers p)
 
   pub other-version-is : statedBy OtherVersion ≡ askedFor version tasks workers cells → knownVersion version ≡ false
   other-version-is e = go (knownVersion version) (inRange tasks workers cells) refl e
     where
       go : (k r : Bool) → knownVersion version ≡ k → statedBy OtherVersion ≡ given k r → knownVersion version ≡ false
-      go true true known p = no-22-0 (numbers p)
-      go true false known p = no-22-4 (numbers p)
+      go true true known p = differ refl (numbers p)
+      go true false known p = differ refl (numbers p)
       go false r known p = known
 
   pub outside-is : statedBy Outside ≡ askedFor version tasks workers cells
@@ -76,6 +63,6 @@ module _ (version tasks workers cells : ℕ) where
     where
       go : (k r : Bool) → knownVersion version ≡ k → inRange tasks workers cells ≡ r → statedBy Outside ≡ given k r
           → (knownVersion version ≡ true) × (inRange tasks workers cells ≡ false)
-      go true true known range p = no-4-0 (numbers p)
+      go true true known range p = differ refl (numbers p)
       go true false known range p = (known, range)
-      go false r known range p = no-4-22 (numbers p)
+      go false r known range p = differ refl (numbers p)

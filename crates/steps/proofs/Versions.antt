@@ -1,5 +1,5 @@
 -- Operation 5 byte by byte is arithmetic with halves and bytes, and the two runs of the worked flow compute.
-use mathlib.Core.Path.{_≡_, refl, sym, _∙_}
+use mathlib.Core.Path.{_≡_, refl}
 use mathlib.Core.Bool.{Bool, true, false, cond}
 use mathlib.Core.List.{map}
 use Prim.Native.Nat.{ℕ, _+_, _*_, _/_, _%_, _<_}
@@ -15,7 +15,7 @@ use Rattle.layout.specs.Block.{blockRefusal, bodyOf, blockOf}
 use Rattle.layout.specs.File.{fileAnswer, flowOf}
 use Rattle.layout.specs.Write.{fileOf, flowRows, flowBytes}
 use Rattle.layout.specs.Cases.{Case}
-use Rattle.steps.specs.Operations.{cellSize, exchanged, highHalf, swapped, becomes}
+use Rattle.steps.specs.Operations.{cellSize, exchanged, highHalf, becomes}
 use Rattle.steps.specs.Plain.{afterOperations, afterTasks}
 use Rattle.steps.specs.Step.{ofEach, ownSteps, outcome, registerAll, change, attempted, ownStep, stepFrom, step}
 use Rattle.steps.specs.Run.{counted, runFrom, doneFrom, finished, accessSteps, totalOf}
