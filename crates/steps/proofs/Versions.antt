@@ -20,8 +20,7 @@ use Rattle.steps.specs.Plain.{afterOperations, afterTasks}
 use Rattle.steps.specs.Step.{ofEach, ownSteps, outcome, registerAll, change, attempted, ownStep, stepFrom, step}
 use Rattle.steps.specs.Run.{counted, runFrom, doneFrom, finished, accessSteps, totalOf}
 use Rattle.steps.specs.Answers.{plainAnswer, plainCells, runAnswer, runTold, runCells}
-use Rattle.steps.specs.Turns.{turn}
-use Rattle.steps.specs.Versions.{Swap, packs, fills, swaps, drives, twoFields, plainIn, ranIn, bothVersions}
+use Rattle.steps.specs.Versions.{Swap, packs, fills, swaps, drives, twoFields, plainIn, ownersFirst, ranIn, bothVersions}
 
 -- what is kept of the high half, by whether the version is 2
 abbrev kept : Bool → ℕ → ℕ
@@ -60,5 +59,5 @@ swap =
 
 -- every case of the table gives what is expected
 pub both-versions-hold : map (λ (c : Case). c .got) bothVersions ≡ map (λ (c : Case). c .expected) bothVersions
-unfolding each all any joined allZero padded firstBroken firstAt after taskOf rowOf modeOf written keepsModes allKeepModes accessesSound names namedOnce operationsSound rowRefusal blockRefusal bodyOf blockOf fileAnswer flowOf fileOf flowRows flowBytes becomes afterOperations afterTasks ofEach ownSteps outcome registerAll change attempted ownStep stepFrom step counted runFrom doneFrom finished accessSteps totalOf plainAnswer plainCells runAnswer runTold runCells turn packs fills swaps drives twoFields plainIn ranIn bothVersions
+unfolding each all any joined allZero padded firstBroken firstAt after taskOf rowOf modeOf written keepsModes allKeepModes accessesSound names namedOnce operationsSound rowRefusal blockRefusal bodyOf blockOf fileAnswer flowOf fileOf flowRows flowBytes becomes afterOperations afterTasks ofEach ownSteps outcome registerAll change attempted ownStep stepFrom step counted runFrom doneFrom finished accessSteps totalOf plainAnswer plainCells runAnswer runTold runCells packs fills swaps drives twoFields plainIn ownersFirst ranIn bothVersions
 both-versions-hold = refl

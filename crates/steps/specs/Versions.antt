@@ -1,8 +1,9 @@
 -- Operation 5 in the two versions (02, Q-8): what it does to each byte of b, and a flow that packs two fields in a cell, run in both.
 -- `proofs/Versions.antt` proves the facts of every value and the table under single statements.
 use mathlib.Core.Path.{_≡_}
-use mathlib.Core.List.{List, [], _∷_}
+use mathlib.Core.List.{List, [], _∷_, _++_}
 use Prim.Native.Nat.{ℕ, _/_, _%_, _<_}
+use lib.ListN.{replicate}
 use Rattle.layout.specs.Bytes.{wordSize}
 use Rattle.layout.specs.Flow.{Task}
 use Rattle.layout.specs.Write.{flowBytes}
@@ -10,7 +11,6 @@ use Rattle.layout.specs.Cases.{Case, gives}
 use Rattle.steps.specs.Operations.{cellSize, swapped, becomes}
 use Rattle.steps.specs.Answers.{Told, plainAnswer, plainCells, runTold, runCells}
 use Rattle.steps.specs.Errors.{access, operation, task}
-use Rattle.steps.specs.Turns.{turns}
 
 -- ---- every value
 
@@ -59,12 +59,15 @@ fourZeros = 0 ∷ 0 ∷ 0 ∷ 0 ∷ []
 unfoldable pub plainIn : ℕ → List ℕ
 plainIn version = plainAnswer (twoFields version) fourZeros .number ∷ plainCells (twoFields version) fourZeros
 
--- with the workers in turn: the number, whether the run has finished, the steps that advanced, and the cells
+-- the steps of task 1's owner up to its wait for task 3, then all of the others', then the drive
+unfoldable pub ownersFirst : List ℕ
+ownersFirst = replicate 15 0 ++ (replicate 14 1 ++ (replicate 10 2 ++ replicate 7 0))
+
+-- under that schedule: the stepped run's number, whether it has finished, the steps that advanced, and the cells
 unfoldable pub ranIn : ℕ → List ℕ
 ranIn version =
-    let schedule : List ℕ = turns 3 138 in
-    let said : Told = runTold (twoFields version) fourZeros schedule in
-    said .number ∷ said .finished ∷ said .advanced ∷ runCells (twoFields version) fourZeros schedule
+    let said : Told = runTold (twoFields version) fourZeros ownersFirst in
+    said .number ∷ said .finished ∷ said .advanced ∷ runCells (twoFields version) fourZeros ownersFirst
 
 unfoldable pub bothVersions : List Case
 bothVersions =
