@@ -1,6 +1,6 @@
 -- A file that the check accepts is ready to be run: the rules that its rows keep are what a step asks of them.
 use mathlib.Core.Path.{_≡_, sym, subst, _∙_}
-use mathlib.Core.Bool.{true}
+use mathlib.Core.Bool.{Bool, true}
 use mathlib.Core.List.{List}
 use Prim.Native.Nat.{ℕ, _+_, _-_, _<_, _≤_}
 use native.Mathlib.Omega.{arith}
@@ -19,11 +19,13 @@ use Rattle.arrays.specs.Arrays.{RowFits, Ready}
 
 -- ---- a row that keeps the rules
 
-operations-kept : (workers cells : ℕ) (row : List ℕ) → RowKept workers cells row → operationsSound cells row ≡ true
+operations-kept : {retired : Bool} (workers cells : ℕ) (row : List ℕ) → RowKept retired workers cells row → operationsSound cells row ≡ true
 unfolding operationsSound
 operations-kept workers cells row k = and-both _ _ (k .operations) (k .operations-rest)
 
-row-ready : (workers cells : ℕ) (row : List ℕ) → workers ≤ mostWorkers → cells ≤ mostCells → length row ≡ 48 → RowKept workers cells row → RowFits row cells
+row-ready : {retired : Bool} (workers cells : ℕ) (row : List ℕ) → workers ≤ mostWorkers → cells ≤ mostCells → length row ≡ 48
+    → RowKept retired workers cells row
+    → RowFits row cells
 row-ready workers cells row few-workers few-cells sized k =
     record {
       size = sized;
@@ -46,7 +48,7 @@ module _ (file : List ℕ) (none : fileAnswer file .number ≡ 0) where
   kept-row i h =
       row-ready (workersOf file) (cellsOf file) (rowAt file (i + 1)) (sizes .workers-fit) (sizes .cells-fit)
       (row-sized file (file-kept file none) i h)
-      (row-keeps (workersOf file) (cellsOf file) (rowAt file (i + 1)) (file-kept file none .rows i h))
+      (row-keeps _ (workersOf file) (cellsOf file) (rowAt file (i + 1)) (file-kept file none .rows i h))
 
   file-ready : Ready file (tasksOf file) (cellsOf file)
   file-ready =

@@ -12,7 +12,7 @@ use lib.Dec.{leb}
 use Rattle.layout.specs.Flow.{mostTasks, mostCells, mostBytes}
 use Rattle.layout.specs.Refusal as Rules
 use Rattle.layout.specs.Refusal.{success, refusal, unless, orElse, firstAt}
-use Rattle.layout.specs.Row.{rowRefusal}
+use Rattle.layout.specs.Row.{retiredInReader, rowRefusal}
 use Rattle.layout.specs.Block.{blocksFor, blockRefusal}
 use Rattle.layout.specs.File.{blockAt, rowAt, versionOf, tasksOf, workersOf, cellsOf, lengthSound, fileAnswer}
 use Rattle.roundtrip.proofs.NoRefusal.{second-given, rule-passed, none-at}
@@ -48,8 +48,8 @@ abbrev pub fromBlocks : List ℕ → ℕ → ℕ → ℕ → ℕ → ℕ → Rul
 fromBlocks file blocks version tasks workers cells =
     firstAt (λ index. blockRefusal blocks version tasks workers cells index (blockAt file index)) 0 blocks
 
-abbrev pub fromRows : List ℕ → ℕ → ℕ → ℕ → Rules.Answer
-fromRows file tasks workers cells = firstAt (λ task. rowRefusal workers cells (rowAt file task)) 1 tasks
+abbrev pub fromRows : List ℕ → ℕ → ℕ → ℕ → ℕ → Rules.Answer
+fromRows file version tasks workers cells = firstAt (λ task. rowRefusal (retiredInReader version) workers cells (rowAt file task)) 1 tasks
 
 -- the sizes are those that the file states
 abbrev pub Stated : List ℕ → Sizes → Type 0
@@ -67,7 +67,7 @@ module _ {file : List ℕ} {blocks version : ℕ} {sizes : Sizes} {met : Answer}
   by-blocks = fromBlocks file blocks version (sizes .tasks) (sizes .workers) (sizes .cells)
 
   abbrev by-rows : Rules.Answer
-  by-rows = fromRows file (sizes .tasks) (sizes .workers) (sizes .cells)
+  by-rows = fromRows file version (sizes .tasks) (sizes .workers) (sizes .cells)
 
   same-number : by-blocks .number ≡ met .number
   same-number = sym (ap (λ (a : Answer). a .number) (m .found))
@@ -77,7 +77,7 @@ module _ {file : List ℕ} {blocks version : ℕ} {sizes : Sizes} {met : Answer}
   parts =
       (λ i.
       orElse (fromBlocks file (m .whole .count-is i) (m .version-is i) (m .stated .0 i) (m .stated .1 i) (m .stated .2 i))
-      (fromRows file (m .stated .0 i) (m .stated .1 i) (m .stated .2 i)))
+      (fromRows file (m .version-is i) (m .stated .0 i) (m .stated .1 i) (m .stated .2 i)))
       ∙ sym (rule-passed (lengthSound (length file)) 1 _ (m .whole .sound))
 
   pub block-refused : (met .number ≡ 0 → ⊥) → met ≡ answerOf (fileAnswer file)

@@ -11,7 +11,7 @@ ghost use lib.ListN.{length};
 ghost use Rattle.layout.specs.Bytes.{wordSize};
 ghost use Rattle.layout.specs.Flow.{mostTasks, mostCells, mostBlocks};
 ghost use Rattle.layout.specs.Refusal.{firstAt};
-ghost use Rattle.layout.specs.Row.{rowRefusal};
+ghost use Rattle.layout.specs.Row.{retiredInReader, rowRefusal};
 ghost use Rattle.layout.specs.Block.{blocksFor, blockRefusal};
 ghost use Rattle.layout.specs.File.{blockAt, rowAt, lengthSound, fileAnswer};
 ghost use Rattle.file.specs.Answers.{answerOf};
@@ -56,15 +56,16 @@ fn blocks_met(file: &[u8], blocks: u32, version: u32, first: Sizes) -> Answer
     }
 }
 
-// The first refusal among the rows of a file.
-fn rows_met(file: &[u8], sizes: Sizes) -> Answer
+// The first refusal among the rows of a file. In a file of version 2 operation 6 is retired.
+fn rows_met(file: &[u8], version: u32, sizes: Sizes) -> Answer
     requires { ⌜ (length (now file) ≡ 512 * blocksFor (sizes .tasks)) × (sizes .tasks ≤ mostTasks) × (sizes .cells ≤ mostCells) ⌝ }
-    ensures { λ r. ⌜ r ≡ answerOf (firstAt (λ task. rowRefusal (sizes .workers) (sizes .cells) (rowAt (now (file .entry)) task)) 1 (sizes .tasks)) ⌝ }
+    ensures { λ r. ⌜ r ≡ answerOf (firstAt (λ task. rowRefusal (retiredInReader version) (sizes .workers) (sizes .cells) (rowAt (now (file .entry)) task)) 1 (sizes .tasks)) ⌝ }
 {
     let mut task: u32 = 1;
     while task <= sizes.tasks {
         let from = row::start(task);
-        let number = row::refusal(&file[from..from + 48], sizes.workers, sizes.cells);
+        let retired = version == Flow::VERSION_2;
+        let number = row::refusal(&file[from..from + 48], retired, sizes.workers, sizes.cells);
         if number != 0 {
             return Answer {
                 number,
@@ -96,7 +97,7 @@ pub fn first_refusal(file: &[u8]) -> Answer
     if met.number != 0 {
         return met;
     }
-    rows_met(file, sizes)
+    rows_met(file, version, sizes)
 }
 
 // The check of a flow file: 0 with the flow's sizes and its version, or the first refusal met.

@@ -2,6 +2,7 @@
 pub mod Blocks
 pub mod Cases
 pub mod Versions
+pub mod Retired
 pub mod Fletcher
 pub mod Lists
 pub mod Modes

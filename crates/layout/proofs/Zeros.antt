@@ -6,13 +6,13 @@ use Prim.Native.Nat.{ℕ, zero, suc, _+_, _<_, _≤_}
 use native.Mathlib.Nat.{zero-add, not-suc-le-zero, le-of-suc-le-suc}
 use native.Mathlib.Omega.{arith}
 use native.Mathlib.Numerals.{add-one}
-use borrow.Author.Tests.{eq-eqb, ne-eqb}
+use borrow.Author.Tests.{eqb-true, eq-eqb, ne-eqb}
 use borrow.Author.Fill.{fill-more}
 use lib.ListN.{length, getD, take, drop, set, replicate, drop-of-length-le}
 use lib.Seq.{take-suc}
 use lib.Dec.{eqb, eqb·suc-zero}
 use Rattle.layout.specs.Bytes.{allZero}
-use Rattle.layout.proofs.Lists.{and-false, and-assoc}
+use Rattle.layout.proofs.Lists.{and-false, and-assoc, and-left, and-right}
 
 -- both of two numbers are zero exactly where their sum is
 pub eqb-sum : (m n : ℕ) → eqb (m + n) 0 ≡ (eqb m 0 && eqb n 0)
@@ -50,6 +50,13 @@ zero-breaks [] i h other = absurd (not-suc-le-zero h)
 zero-breaks (byte ∷ bytes) zero h other = ap (λ (t : Bool). t && allZero bytes) (ne-eqb byte 0 other)
 zero-breaks (byte ∷ bytes) (suc i) h other =
     ap (λ (t : Bool). eqb byte 0 && t) (zero-breaks bytes i (le-of-suc-le-suc h) other) ∙ and-false (eqb byte 0)
+
+-- each of bytes that are all zero
+pub zero-at : (bytes : List ℕ) (i : ℕ) → allZero bytes ≡ true → getD bytes i 0 ≡ 0
+unfolding allZero
+zero-at [] i h = refl
+zero-at (byte ∷ bytes) zero h = eqb-true byte 0 (and-left (eqb byte 0) (allZero bytes) h)
+zero-at (byte ∷ bytes) (suc i) h = zero-at bytes i (and-right (eqb byte 0) (allZero bytes) h)
 
 -- a running sum that is zero exactly where the bytes passed all are stays so by the next byte
 pub sum-more : (bytes : List ℕ) (i sum byte : ℕ) → i < length bytes → byte ≡ getD bytes i 0 → eqb sum 0 ≡ allZero (take i bytes)

@@ -9,7 +9,7 @@ use Rattle.layout.specs.Lists.{each, joined}
 use Rattle.layout.specs.Bytes.{at, word, part}
 use Rattle.layout.specs.Flow.{Task, Flow, mostBytes}
 use Rattle.layout.specs.Refusal.{Answer, refusal, unless, orElse, firstAt}
-use Rattle.layout.specs.Row.{taskOf, rowRefusal}
+use Rattle.layout.specs.Row.{taskOf, retiredInReader, rowRefusal}
 use Rattle.layout.specs.Block.{blockRefusal}
 
 -- ---- where a block and a row stand
@@ -54,9 +54,9 @@ abbrev pub blockNumber : List ℕ → ℕ → ℕ
 blockNumber file index =
     blockRefusal (blocksOf file) (versionOf file) (tasksOf file) (workersOf file) (cellsOf file) index (blockAt file index)
 
--- 6 to 11 and 17 on one task
+-- 6 to 11, 17 and 18 on one task
 abbrev pub rowNumber : List ℕ → ℕ → ℕ
-rowNumber file task = rowRefusal (workersOf file) (cellsOf file) (rowAt file task)
+rowNumber file task = rowRefusal (retiredInReader (versionOf file)) (workersOf file) (cellsOf file) (rowAt file task)
 
 -- "1; then 2 to 5 on block 0, then on block 1, and so on; then 6 to 11 on task 1, then task 2, and so on"; 17 comes "before 6 on the next"
 unfoldable pub fileAnswer : List ℕ → Answer

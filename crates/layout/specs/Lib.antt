@@ -10,3 +10,4 @@ pub mod File
 pub mod Write
 pub mod Cases
 pub mod Versions
+pub mod Retired

@@ -1,6 +1,6 @@
--- A row of 48 bytes and refusals 6 to 11 and 17 (01, "The file" and "Numbers of refusal"; 02, Q-6): the task that a row holds, what
--- each rule asks of it, and the first rule that it breaks. A rule on what a task may do is stated over the task; a rule on bytes that
--- must be zero, over the row.
+-- A row of 48 bytes and refusals 6 to 11, 17 and 18 (01, "The file" and "Numbers of refusal"; 02, Q-6 and Q-9): the task that a row
+-- holds, what each rule asks of it, and the first rule that it breaks. A rule on what a task may do is stated over the task; a rule on bytes
+-- that must be zero, over the row.
 use mathlib.Core.Bool.{Bool, true, not, cond, _&&_, _||_}
 use mathlib.Core.List.{List, [], _∷_, _++_}
 use Prim.Native.Nat.{ℕ, _+_, _*_}
@@ -131,6 +131,21 @@ unfoldable pub operationsSound : ℕ → List ℕ → Bool
 operationsSound cells row =
     all (operationSound cells row) (each (at row 2) (λ i. i)) && allZero (part (12 + 6 * at row 2) 48 row)
 
+-- one of the task's operations is 'the larger of', code 6
+abbrev pub usesLarger : Task → Bool
+usesLarger task = any (λ o. eqb (o .code) 6) (task .operations)
+
+-- 18: "Retire 'the larger of'": where it is retired, no operation is one
+abbrev pub retirementKept : Bool → Task → Bool
+retirementKept retired task = not (retired && usesLarger task)
+
+-- it is retired "in readers for version 2 only, in the writer for both versions"
+abbrev pub retiredInReader : ℕ → Bool
+retiredInReader version = eqb version 2
+
+abbrev pub retiredInWriter : ℕ → Bool
+retiredInWriter version = true
+
 -- 11: "an operation reads or writes against the modes"
 abbrev pub modesSound : Task → Bool
 modesSound task = allKeepModes (task .accesses) [] (task .operations)
@@ -143,15 +158,17 @@ writeMade operations access = not (eqb (access .mode) 2) || written operations (
 abbrev pub writesMade : Task → Bool
 writesMade task = all (writeMade (task .operations)) (task .accesses)
 
--- the first of 6 to 11 that a row breaks, or 17, "directly after 11 on the same task"; 0 where it breaks none
-unfoldable pub rowRefusal : ℕ → ℕ → List ℕ → ℕ
-rowRefusal workers cells row =
+-- the first of 6 to 11 that a row breaks, or 18, "after 10 and before 11 on the same task", or 17, "directly after 11 on the same task"; 0 where it
+-- breaks none
+unfoldable pub rowRefusal : Bool → ℕ → ℕ → List ℕ → ℕ
+rowRefusal retired workers cells row =
     firstBroken
     ((6, ownerSound workers row)
     ∷ (7, countsSound row)
     ∷ (8, accessesSound cells row)
     ∷ (9, namedOnce (taskOf row .accesses))
     ∷ (10, operationsSound cells row)
+    ∷ (18, retirementKept retired (taskOf row))
     ∷ (11, modesSound (taskOf row))
     ∷ (17, writesMade (taskOf row))
     ∷ [])

@@ -1,4 +1,4 @@
--- The bytes of a flow, and what the writer answers and leaves (01, "The file" and "Numbers of refusal"; 02, Q-8).
+-- The bytes of a flow, and what the writer answers and leaves (01, "The file" and "Numbers of refusal"; 02, Q-8 and Q-9).
 use mathlib.Core.Bool.{Bool, _&&_}
 use mathlib.Core.List.{List}
 use Prim.Native.Nat.{ℕ, _+_, _-_, _*_, _/_, _%_}
@@ -8,7 +8,7 @@ use Rattle.layout.specs.Lists.{each, joined}
 use Rattle.layout.specs.Bytes.{part}
 use Rattle.layout.specs.Flow.{Flow, knownVersion, mostRowBytes, inRange}
 use Rattle.layout.specs.Refusal.{Answer, refusal, unless, orElse, firstAt}
-use Rattle.layout.specs.Row.{taskOf, rowOf, rowRefusal}
+use Rattle.layout.specs.Row.{taskOf, rowOf, retiredInWriter, rowRefusal}
 use Rattle.layout.specs.Block.{blocksFor, blockOf}
 
 -- ---- the bytes of a flow
@@ -47,7 +47,7 @@ rowsAnswer rows version workers cells =
     orElse (refusal (unless (rowsSound (length rows)) 15) 0)
     (orElse (refusal (unless (knownVersion version) 22) 0)
     (orElse (refusal (unless (inRange (rowCount rows) workers cells) 4) 0)
-    (firstAt (λ task. rowRefusal workers cells (rowOfTask rows task)) 1 (rowCount rows))))
+    (firstAt (λ task. rowRefusal (retiredInWriter version) workers cells (rowOfTask rows task)) 1 (rowCount rows))))
 
 -- and 16: the lent output is shorter than needed
 unfoldable pub writeAnswer : List ℕ → ℕ → ℕ → ℕ → ℕ → Answer

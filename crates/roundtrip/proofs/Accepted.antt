@@ -7,8 +7,8 @@ use native.Mathlib.Omega.{arith}
 use lib.ListN.{length}
 use Rattle.layout.specs.Bytes.{IsBytes, at}
 use Rattle.layout.specs.Flow.{Flow}
-use Rattle.layout.specs.Row.{taskOf, rowOf, accessAt, operationAt, operationInRange, operationSound}
-use Rattle.layout.specs.File.{rowStart, rowAt, tasksOf, workersOf, cellsOf, flowOf, rowsOf, checkedAs, accepted, check}
+use Rattle.layout.specs.Row.{taskOf, rowOf, accessAt, operationAt, operationInRange, operationSound, retiredInReader}
+use Rattle.layout.specs.File.{rowStart, rowAt, versionOf, tasksOf, workersOf, cellsOf, flowOf, rowsOf, checkedAs, accepted, check}
 use Rattle.layout.specs.Write.{flowRows, flowBytes}
 use Rattle.layout.proofs.Lists.{and-left, each-length, each-at, all-pass, all-keeps}
 use Rattle.roundtrip.specs.Sound.{TaskSound, Sound}
@@ -20,9 +20,10 @@ use Rattle.roundtrip.proofs.Read.{version-known, file-sizes, row-sized,
 
 -- ---- what the rules say of a row, said of its task
 
-task-sound : (workers cells : ℕ) (row : List ℕ) → RowKept workers cells row → TaskSound workers cells (taskOf row)
+task-sound : (version workers cells : ℕ) (row : List ℕ) → RowKept (retiredInReader version) workers cells row
+    → TaskSound version workers cells (taskOf row)
 unfolding taskOf
-task-sound workers cells row k =
+task-sound version workers cells row k =
     let accesses = each-length (at row 1) (accessAt row) in
     let operations = each-length (at row 2) (operationAt row) in
     record {
@@ -35,6 +36,7 @@ task-sound workers cells row k =
       operations-in-range =
           all-pass (operationInRange cells) (at row 2) (operationAt row)
           (λ i l. and-left _ _ (all-keeps (operationSound cells row) (at row 2) (λ j. j) i l (k .operations)));
+      retirement-kept = k .retirement;
       modes-kept = k .modes;
       writes-made = k .writes;
     }
@@ -56,14 +58,15 @@ module _ (file : List ℕ) where
   -- ---- the flow's bytes
 
   module _ (k : FileKept file) where
-    kept-row : (i : ℕ) → i < tasksOf file → RowKept (workersOf file) (cellsOf file) (rowAt file (i + 1))
-    kept-row i l = row-keeps (workersOf file) (cellsOf file) (rowAt file (i + 1)) (k .rows i l)
+    kept-row : (i : ℕ) → i < tasksOf file
+        → RowKept (retiredInReader (versionOf file)) (workersOf file) (cellsOf file) (rowAt file (i + 1))
+    kept-row i l = row-keeps (retiredInReader (versionOf file)) (workersOf file) (cellsOf file) (rowAt file (i + 1)) (k .rows i l)
 
     pub rows-of-flow : IsBytes file → flowRows (flowOf file) ≡ rowsOf file
     unfolding flowRows flowOf rowsOf
     rows-of-flow bytes =
         joined-same (tasksOf file) rowOf (λ i. taskOf (rowAt file (i + 1))) (rowAt file) (λ i. i + 1)
-        (λ i l. row-back (workersOf file) (cellsOf file) (rowAt file (i + 1)) (k .rows i l) (row-sized file k i l)
+        (λ i l. row-back (retiredInReader (versionOf file)) (workersOf file) (cellsOf file) (rowAt file (i + 1)) (k .rows i l) (row-sized file k i l)
         (bytes-part (rowStart (i + 1)) (rowStart (i + 1) + 48) file bytes))
 
     flow-length : length (flowOf file .tasks) ≡ tasksOf file
@@ -86,5 +89,5 @@ module _ (file : List ℕ) where
               λ i none l.
               let in-file : i < tasksOf file = rw flow-length at l in
               rw (each-at (tasksOf file) (λ j. taskOf (rowAt file (j + 1))) i none in-file)
-              (task-sound (workersOf file) (cellsOf file) (rowAt file (i + 1)) (kept-row i in-file));
+              (task-sound (versionOf file) (workersOf file) (cellsOf file) (rowAt file (i + 1)) (kept-row i in-file));
         }

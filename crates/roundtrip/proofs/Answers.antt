@@ -1,7 +1,7 @@
 -- What an answer of success says, since it is given only where no refusal is met: to the file check, that rule 1 is kept, rules
 -- 2 to 5 by every block and a row's rules by every row; to the writer's, that rules 15, 22 and 4 are, and a row's rules by every row.
 use mathlib.Core.Path.{_≡_, ap, _∙_}
-use mathlib.Core.Bool.{true}
+use mathlib.Core.Bool.{Bool, true}
 use mathlib.Core.List.{List}
 use Prim.Native.Nat.{ℕ, _+_, _%_, _<_, _≤_}
 use native.Mathlib.Nat.{zero-add, add-comm}
@@ -11,7 +11,7 @@ use lib.ListN.{length}
 use lib.Dec.{lit<}
 use Rattle.layout.specs.Refusal.{Answer, success, refusal, unless, orElse, firstAt}
 use Rattle.layout.specs.Flow.{knownVersion, mostBytes, mostRowBytes, inRange, WithinLimits}
-use Rattle.layout.specs.Row.{rowRefusal}
+use Rattle.layout.specs.Row.{retiredInWriter, rowRefusal}
 use Rattle.layout.specs.File.{fileAnswer, lengthSound, blocksOf, tasksOf, blockNumber, rowNumber}
 use Rattle.layout.specs.Write.{rowsAnswer, rowsSound, rowCount, rowOfTask}
 use Rattle.roundtrip.proofs.NoRefusal.{and-iff, both-zero, second-given, rule-then, rule-passed, none-at, success-at}
@@ -52,19 +52,23 @@ module _ (file : List ℕ) where
 
 -- ---- the writer's check of rows
 
-pub record RowsKept (rows : List ℕ) (version workers cells : ℕ) : Type 0 where
+-- rows that keep the rules, where operation 6 is retired or not
+pub record RowsKept (retired : Bool) (rows : List ℕ) (version workers cells : ℕ) : Type 0 where
   pub some-byte : 1 ≤ length rows
   pub bytes-fit : length rows ≤ mostRowBytes
   pub whole-rows : length rows % 48 ≡ 0
   pub known : knownVersion version ≡ true
   pub sizes : WithinLimits (rowCount rows) workers cells
-  pub each-row : (i : ℕ) → i < rowCount rows → rowRefusal workers cells (rowOfTask rows (i + 1)) ≡ 0
+  pub each-row : (i : ℕ) → i < rowCount rows → rowRefusal retired workers cells (rowOfTask rows (i + 1)) ≡ 0
 
 module _ (rows : List ℕ) (version workers cells : ℕ) where
-  pub rows-keep : rowsAnswer rows version workers cells .number ≡ 0 → RowsKept rows version workers cells
+  -- the first refusal among the rows
+  abbrev by-rows : Answer
+  by-rows = firstAt (λ task. rowRefusal (retiredInWriter version) workers cells (rowOfTask rows task)) 1 (rowCount rows)
+
+  pub rows-keep : rowsAnswer rows version workers cells .number ≡ 0 → RowsKept (retiredInWriter version) rows version workers cells
   unfolding rowsAnswer
   rows-keep h =
-      let by-rows : Answer = firstAt (λ task. rowRefusal workers cells (rowOfTask rows task)) 1 (rowCount rows) in
       let by-sizes : Answer = orElse (refusal (unless (inRange (rowCount rows) workers cells) 4) 0) by-rows in
       let start =
       rule-then (rowsSound (length rows)) 15 (orElse (refusal (unless (knownVersion version) 22) 0) by-sizes) (lit< tt) h in
@@ -81,14 +85,19 @@ module _ (rows : List ℕ) (version workers cells : ℕ) where
         each-row =
             λ i l.
             rw (add-comm 1 i)
-            at (none-at (λ task. rowRefusal workers cells (rowOfTask rows task)) 1 (rowCount rows) (then .1) i l);
+            at (none-at (λ task. rowRefusal (retiredInWriter version) workers cells (rowOfTask rows task)) 1 (rowCount rows) (then .1) i l);
       }
 
-  pub keep-rows : RowsKept rows version workers cells → rowsAnswer rows version workers cells ≡ success
+  -- of rows that keep the rules, but for operation 6 perhaps, the writer asks only the rows
+  pub rows-asked : {retired : Bool} → RowsKept retired rows version workers cells → rowsAnswer rows version workers cells ≡ by-rows
   unfolding rowsAnswer
-  keep-rows h =
+  rows-asked h =
       rule-passed (rowsSound (length rows)) 15 _ (simp and-iff (omega (arith, eq-eqb, le-leb)))
       ∙ rule-passed (knownVersion version) 22 _ (h .known)
       ∙ rule-passed (inRange (rowCount rows) workers cells) 4 _ (simp and-iff (omega (arith, le-leb)))
-      ∙ success-at (λ task. rowRefusal workers cells (rowOfTask rows task)) 1 (rowCount rows)
+
+  pub keep-rows : RowsKept (retiredInWriter version) rows version workers cells → rowsAnswer rows version workers cells ≡ success
+  keep-rows h =
+      rows-asked h
+      ∙ success-at (λ task. rowRefusal (retiredInWriter version) workers cells (rowOfTask rows task)) 1 (rowCount rows)
       (λ i l. rw (add-comm 1 i) (h .each-row i l))

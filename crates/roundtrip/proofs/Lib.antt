@@ -12,4 +12,5 @@ pub mod Places
 pub mod Written
 pub mod Read
 pub mod Accepted
+pub mod Retired
 pub mod Theorems

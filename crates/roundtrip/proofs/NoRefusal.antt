@@ -1,10 +1,10 @@
 -- No refusal is given exactly where every rule is kept: an answer under a number that isn't 0 is passed on, so a 0 at the end
 -- says that each rule on the way was kept.
-use mathlib.Core.Path.{_≡_, refl, ap, _∙_}
+use mathlib.Core.Path.{_≡_, refl, sym, ap, ap₂, _∙_}
 use mathlib.Core.Bool.{Bool, true, false, cond, _&&_}
-use mathlib.Core.Logic.{_↔_}
+use mathlib.Core.Logic.{_↔_, _⊎_, inl, inr, ⊎-elim}
 use mathlib.Core.List.{List, [], _∷_}
-use Prim.Native.Nat.{ℕ, zero, suc, _+_, _<_}
+use Prim.Native.Nat.{ℕ, zero, suc, _+_, _-_, _<_}
 use native.Mathlib.Nat.{add-zero}
 use native.Mathlib.Omega.{arith}
 use borrow.Author.Tests.{ltb-true, eqb-true, eqb-false}
@@ -13,6 +13,7 @@ use lib.Dec.{eqb, ltb}
 use Rattle.layout.specs.Lists.{all}
 use Rattle.layout.specs.Refusal.{Answer, success, refusal, unless, orElse, firstBroken, firstAt}
 use Rattle.layout.proofs.Lists.{and-left, and-right, and-both}
+use Rattle.layout.proofs.Refusals.{place-passed, place-refused}
 
 -- ---- one rule, and two
 
@@ -69,6 +70,82 @@ success-at number from (suc count) h =
     later i l =
         let there : from + 1 + i ≡ from + suc i = omega arith in
         rw there (h (suc i) (omega arith))
+
+-- the same number at each place
+pub same-at : (number number′ : ℕ → ℕ) (from count : ℕ) → ((i : ℕ) → i < count → number (from + i) ≡ number′ (from + i))
+    → firstAt number from count ≡ firstAt number′ from count
+unfolding firstAt
+same-at number number′ from zero h = refl
+same-at number number′ from (suc count) h =
+    ap₂ (λ (n : ℕ) (rest : Answer). orElse (refusal n from) rest) (rw add-zero at (h 0 (omega arith)))
+    (same-at number number′ (from + 1) count later)
+  where
+    later : (i : ℕ) → i < count → number (from + 1 + i) ≡ number′ (from + 1 + i)
+    later i l =
+        let there : from + 1 + i ≡ from + suc i = omega arith in
+        rw there (h (suc i) (omega arith))
+
+-- ---- one rule at each place
+
+-- the place at which a rule is broken first is the one that is given
+pub record FirstBreak (rule : ℕ → Bool) (number from count i : ℕ) : Type 0 where
+  pub there : i < count
+  pub breaks : rule (from + i) ≡ false
+  pub kept-before : (j : ℕ) → j < i → rule (from + j) ≡ true
+  pub given : firstAt (λ place. unless (rule place) number) from count ≡ refusal number (from + i)
+
+-- a rule is kept at every place, or there is a first one at which it is broken
+pub break-at : (rule : ℕ → Bool) (number : ℕ) → 0 < number → (from count : ℕ)
+    → ((i : ℕ) → i < count → rule (from + i) ≡ true) ⊎ ((i : ℕ) × FirstBreak rule number from count i)
+break-at rule number some from zero = inl (λ i l. absurd (omega arith))
+break-at rule number some from (suc count) = here (rule from) refl (break-at rule number some (from + 1) count)
+  where
+    given-here : rule from ≡ false → firstAt (λ place. unless (rule place) number) from (suc count) ≡ refusal number from
+    given-here e =
+        let given : unless (rule from) number ≡ number = rw e in
+        place-refused (λ place. unless (rule place) number) from (suc count) (omega arith) (λ none. omega (arith, some, sym given ∙ none))
+        ∙ ap (λ (n : ℕ). refusal n from) given
+
+    all-kept : rule from ≡ true → ((i : ℕ) → i < count → rule (from + 1 + i) ≡ true) → (i : ℕ) → i < suc count → rule (from + i) ≡ true
+    all-kept e later zero l = rw add-zero e
+    all-kept e later (suc i) l =
+        let there : from + suc i ≡ from + 1 + i = omega arith in
+        rw there (later i (omega arith))
+
+    further : rule from ≡ true → (i : ℕ) → FirstBreak rule number (from + 1) count i → FirstBreak rule number from (suc count) (suc i)
+    further e i broken =
+        let there : from + suc i ≡ from + 1 + i = omega arith in
+        let less : suc count - 1 ≡ count = omega arith in
+        record {
+          there = omega (arith, broken .there);
+          breaks = rw there (broken .breaks);
+          kept-before = before;
+          given =
+              rw there
+              (place-passed (λ place. unless (rule place) number) from (suc count) (omega arith) (rw e)
+              ∙ (rw less (broken .given)));
+        }
+      where
+        before : (j : ℕ) → j < suc i → rule (from + j) ≡ true
+        before zero l = rw add-zero e
+        before (suc j) l =
+            let there : from + suc j ≡ from + 1 + j = omega arith in
+            rw there (broken .kept-before j (omega arith))
+
+    here : (b : Bool) → rule from ≡ b
+        → (((i : ℕ) → i < count → rule (from + 1 + i) ≡ true) ⊎ ((i : ℕ) × FirstBreak rule number (from + 1) count i))
+        → ((i : ℕ) → i < suc count → rule (from + i) ≡ true) ⊎ ((i : ℕ) × FirstBreak rule number from (suc count) i)
+    here false e later =
+        inr (
+          0,
+          record {
+            there = omega arith;
+            breaks = rw add-zero e;
+            kept-before = λ j l. absurd (omega arith);
+            given = rw add-zero (given-here e);
+          },
+        )
+    here true e later = ⊎-elim (λ kept. inl (all-kept e kept)) (λ broken. inr (suc (broken .0), further e (broken .0) (broken .1))) later
 
 -- ---- several rules on one thing
 

@@ -1,5 +1,5 @@
 -- An accepted file: the rules name every byte of a block but its rows, so the file is the file of its rows, and those are rows
--- that the writer accepts.
+-- that keep a reader's rules.
 use mathlib.Core.Path.{_≡_, sym, ap, _∙_}
 use mathlib.Core.Bool.{true}
 use mathlib.Core.List.{List, _++_}
@@ -9,16 +9,16 @@ use lib.ListN.{length, take, drop}
 use lib.Seq.{take-all, drop-drop}
 use Rattle.layout.specs.Flow.{knownVersion, WithinLimits}
 use Rattle.layout.specs.Bytes.{IsBytes, padded}
-use Rattle.layout.specs.Refusal.{success}
+use Rattle.layout.specs.Row.{retiredInReader}
 use Rattle.layout.specs.Block.{blocksFor, rowsIn, headOf, bodyOf, sealed, blockOf}
 use Rattle.layout.specs.File.{blockAt, rowStart, rowAt, blocksOf, versionOf, tasksOf, workersOf, cellsOf, rowsOf}
-use Rattle.layout.specs.Write.{fileOf, rowCount, rowsAnswer}
+use Rattle.layout.specs.Write.{fileOf, rowCount, rowOfTask}
 use Rattle.roundtrip.proofs.Parts.{part-length}
 use Rattle.roundtrip.proofs.Pieces.{joined-cut, joined-length, piece, same-pieces}
 use Rattle.roundtrip.proofs.Below.{bytes-part, bytes-joined}
 use Rattle.roundtrip.proofs.BlockRules.{BlockKept, block-keeps}
 use Rattle.roundtrip.proofs.BlockRead.{block-back}
-use Rattle.roundtrip.proofs.Answers.{FileKept, keep-rows}
+use Rattle.roundtrip.proofs.Answers.{FileKept, RowsKept}
 use Rattle.roundtrip.proofs.Places.{block-at, row-at, row-long, row-of-task}
 
 pub rows-bytes : (file : List ℕ) → IsBytes file → IsBytes (rowsOf file)
@@ -63,8 +63,11 @@ module _ (file : List ℕ) (k : FileKept file) where
   unfolding rowsOf
   row-there i l = piece 48 (tasksOf file) (rowAt file) (λ j. j + 1) row-sized i l
 
-  pub rows-accepted : rowsAnswer (rowsOf file) (versionOf file) (workersOf file) (cellsOf file) ≡ success
-  rows-accepted = keep-rows (rowsOf file) (versionOf file) (workersOf file) (cellsOf file)
+  pub row-taken : (i : ℕ) → i < tasksOf file → rowOfTask (rowsOf file) (i + 1) ≡ rowAt file (i + 1)
+  row-taken i l = row-of-task (rowsOf file) i ∙ row-there i l
+
+  pub rows-kept : RowsKept (retiredInReader (versionOf file)) (rowsOf file) (versionOf file) (workersOf file) (cellsOf file)
+  rows-kept =
       record {
         some-byte = omega (arith, rows-length, file-sizes);
         bytes-fit = omega (arith, rows-length, file-sizes);
@@ -74,7 +77,7 @@ module _ (file : List ℕ) (k : FileKept file) where
         each-row =
             λ i l.
             let in-file : i < tasksOf file = rw count-back at l in
-            rw (row-of-task (rowsOf file) i, row-there i in-file) (k .rows i in-file);
+            rw (row-taken i in-file) (k .rows i in-file);
       }
 
   -- ---- a block's rows out of all rows

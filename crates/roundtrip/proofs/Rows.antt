@@ -1,7 +1,7 @@
 -- A row that keeps its rules is the row of its task: rules 7, 8 and 10 make every byte zero that the task doesn't hold, and
 -- the two bytes of k come back from k since they are below 256.
 use mathlib.Core.Path.{_≡_, refl, sym, ap, ap₂, _∙_}
-use mathlib.Core.Bool.{true}
+use mathlib.Core.Bool.{Bool, true}
 use mathlib.Core.List.{List, _∷_, _++_}
 use Prim.Native.Nat.{ℕ, _+_, _*_, _<_, _≤_}
 use native.Mathlib.Omega.{arith}
@@ -13,7 +13,8 @@ use Rattle.layout.specs.Bytes.{IsBytes, at, word, part, allZero, padded}
 use Rattle.layout.specs.Flow.{mostAccesses, mostOperations}
 use Rattle.layout.specs.Row.{accessAt, operationAt, spareAt, taskOf, accessBytes, operationBytes, rowOf}
 use Rattle.layout.specs.Row.{accessInRange, accessesSound, namedOnce, operationInRange, operationSound, operationsSound}
-use Rattle.layout.specs.Row.{modesSound, writesMade, rowRefusal}
+use Rattle.layout.specs.Refusal.{unless, firstBroken}
+use Rattle.layout.specs.Row.{ownerSound, countsSound, retirementKept, modesSound, writesMade, rowRefusal}
 use Rattle.layout.proofs.Lists.{and-left, and-right, each-length, all-keeps}
 use Rattle.roundtrip.proofs.Parts.{part-bytes, padded-back, word-back}
 use Rattle.roundtrip.proofs.Pieces.{joined-cut}
@@ -28,18 +29,19 @@ pub record RowCounts (workers : ℕ) (row : List ℕ) : Type 0 where
   pub operations-fit : at row 2 ≤ mostOperations
   pub spare : at row 3 ≡ 0
 
-pub record RowKept (workers cells : ℕ) (row : List ℕ) : Type 0 where
+pub record RowKept (retired : Bool) (workers cells : ℕ) (row : List ℕ) : Type 0 where
   pub counts : RowCounts workers row
   pub accesses : all (accessInRange cells) (taskOf row .accesses) ≡ true
   pub accesses-rest : allZero (part (4 + 2 * at row 1) 12 row) ≡ true
   pub once : namedOnce (taskOf row .accesses) ≡ true
   pub operations : all (operationSound cells row) (each (at row 2) (λ i. i)) ≡ true
   pub operations-rest : allZero (part (12 + 6 * at row 2) 48 row) ≡ true
+  pub retirement : retirementKept retired (taskOf row) ≡ true
   pub modes : modesSound (taskOf row) ≡ true
   pub writes : writesMade (taskOf row) ≡ true
 
-module _ (workers cells : ℕ) (row : List ℕ) where
-  pub row-keeps : rowRefusal workers cells row ≡ 0 → RowKept workers cells row
+module _ (retired : Bool) (workers cells : ℕ) (row : List ℕ) where
+  pub row-keeps : rowRefusal retired workers cells row ≡ 0 → RowKept retired workers cells row
   unfolding rowRefusal all accessesSound operationsSound
   row-keeps h =
       let rule : (i : ℕ) → _ = rule-kept _ refl h in
@@ -52,13 +54,32 @@ module _ (workers cells : ℕ) (row : List ℕ) where
         once = rule 3;
         operations = and-left _ _ (rule 4);
         operations-rest = and-right (all (operationSound cells row) (each (at row 2) (λ i. i))) _ (rule 4);
-        modes = rule 5;
-        writes = rule 6;
+        retirement = rule 5;
+        modes = rule 6;
+        writes = rule 7;
       }
+
+  others-kept : rowRefusal retired workers cells row ≡ 0
+      → (ownerSound workers row ≡ true) × (countsSound row ≡ true) × (accessesSound cells row ≡ true) × (namedOnce (taskOf row .accesses) ≡ true)
+      × (operationsSound cells row ≡ true)
+      × (modesSound (taskOf row) ≡ true)
+      × (writesMade (taskOf row) ≡ true)
+  unfolding rowRefusal all
+  others-kept h =
+      let rule : (i : ℕ) → _ = rule-kept _ refl h in
+      (rule 0, rule 1, rule 2, rule 3, rule 4, rule 6, rule 7)
+
+  -- whether operation 6 is retired is asked by rule 18 alone
+  pub only-18 : rowRefusal retired workers cells row ≡ 0 → (other : Bool)
+      → rowRefusal other workers cells row ≡ unless (retirementKept other (taskOf row)) 18
+  unfolding rowRefusal firstBroken
+  only-18 h other =
+      let kept = others-kept h in
+      rw (kept .0, kept .1, kept .2, kept .3, kept .4, kept .5, kept .6)
 
   -- ---- a row that keeps the rules is the row of its task
 
-  module _ (k : RowKept workers cells row) (sized : length row ≡ 48) where
+  module _ (k : RowKept retired workers cells row) (sized : length row ≡ 48) where
     access-back : (j : ℕ) → j < at row 1 → accessBytes (accessAt row j) ≡ take 2 (drop (2 * j) (drop 4 row))
     unfolding each
     access-back j l =
@@ -111,5 +132,5 @@ module _ (workers cells : ℕ) (row : List ℕ) where
         rw (each-length (at row 1) (accessAt row), each-length (at row 2) (operationAt row), accesses, operations)
         (sym (rw (few .spare) at split))
 
-  pub row-back : rowRefusal workers cells row ≡ 0 → length row ≡ 48 → IsBytes row → rowOf (taskOf row) ≡ row
+  pub row-back : rowRefusal retired workers cells row ≡ 0 → length row ≡ 48 → IsBytes row → rowOf (taskOf row) ≡ row
   row-back h sized bytes = whole-back (row-keeps h) sized bytes

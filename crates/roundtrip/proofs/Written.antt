@@ -1,5 +1,5 @@
--- The file of accepted rows: each of its blocks is the block of its rows, so that it keeps the rules, and each of its rows is
--- the row that was given.
+-- The file of rows that keep a reader's rules: each of its blocks is the block of its rows, so that it keeps the rules, and each of its
+-- rows is the row that was given.
 use mathlib.Core.Path.{_≡_, sym, ap, _∙_}
 use mathlib.Core.List.{List}
 use Prim.Native.Nat.{ℕ, _+_, _*_, _/_, _%_, _<_, _≤_}
@@ -10,7 +10,7 @@ use lib.Dec.{lit<}
 use Rattle.layout.specs.Lists.{each, joined}
 use Rattle.layout.specs.Bytes.{at}
 use Rattle.layout.specs.Refusal.{success}
-use Rattle.layout.specs.Row.{taskOf}
+use Rattle.layout.specs.Row.{taskOf, retiredInReader}
 use Rattle.layout.specs.Block.{blocksFor, rowsIn, blockOf}
 use Rattle.layout.specs.File.{blockAt, rowAt, blocksOf, versionOf, tasksOf, workersOf, cellsOf}
 use Rattle.layout.specs.File.{fileAnswer, flowOf, rowsOf, check, accepted, checkedAs}
@@ -22,11 +22,11 @@ use Rattle.roundtrip.proofs.BlockWritten.{block-length, block-row, bloc
 use Rattle.roundtrip.proofs.Answers.{RowsKept, keeps-file}
 use Rattle.roundtrip.proofs.Places.{block-at, row-at, row-of-task, in-first}
 
--- the file that the writer makes of rows
+-- the file of rows
 abbrev pub written : List ℕ → ℕ → ℕ → ℕ → List ℕ
 written rows version workers cells = fileOf version (rowCount rows) workers cells rows
 
-module _ (rows : List ℕ) (version workers cells : ℕ) (k : RowsKept rows version workers cells) where
+module _ (rows : List ℕ) (version workers cells : ℕ) (k : RowsKept (retiredInReader version) rows version workers cells) where
   -- the rows of each block are there
   fits : (i : ℕ) → i < blocksFor (rowCount rows) → 480 * i + 48 * rowsIn (rowCount rows) i ≤ length rows
   fits i l = omega arith
@@ -107,14 +107,14 @@ module _ (rows : List ℕ) (version workers cells : ℕ) (k : RowsKept rows vers
         rows =
             λ i l.
             let in-rows : i < rowCount rows = rw tasks-back at l in
-            rw (workers-back, cells-back, row-given i in-rows) (k .each-row i in-rows);
+            rw (version-back, workers-back, cells-back, row-given i in-rows) (k .each-row i in-rows);
       }
 
   list-back : flowOf (written rows version workers cells) .tasks ≡ flowOfRows rows version workers cells .tasks
   unfolding flowOf flowOfRows
   list-back = rw tasks-back (each-same (rowCount rows) _ _ (λ i l. ap taskOf (row-given i l)))
 
-  flow-back : flowOf (written rows version workers cells) ≡ flowOfRows rows version workers cells
+  pub flow-back : flowOf (written rows version workers cells) ≡ flowOfRows rows version workers cells
   unfolding flowOf flowOfRows
   flow-back = λ i. record { version = version-back i; workers = workers-back i; cells = cells-back i; tasks = list-back i }
 

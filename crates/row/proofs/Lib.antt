@@ -2,5 +2,6 @@
 pub mod Told
 pub mod Indexes
 pub mod Operation
+pub mod Codes
 pub mod Once
 pub mod Keeps

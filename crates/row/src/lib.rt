@@ -1,4 +1,4 @@
-// The check of a row: refusals 6 to 11 and 17. The row is read where the caller keeps its 48 bytes.
+// The check of a row: refusals 6 to 11, 17 and 18. The row is read where the caller keeps its 48 bytes.
 use flow::Flow;
 ghost use mathlib.Core.Path.{_≡_};
 ghost use mathlib.Core.Bool.{true, cond};
@@ -7,7 +7,7 @@ ghost use lib.ListN.{length};
 ghost use Rattle.layout.specs.Lists.{each, all};
 ghost use Rattle.layout.specs.Flow.{mostTasks, mostCells, mostAccesses, mostOperations};
 ghost use Rattle.layout.specs.File.{rowStart};
-ghost use Rattle.layout.specs.Row.{accessAt, taskOf, ownerSound, countsSound, accessInRange, accessesSound, namedOnce, operationSound, operationsSound, modesSound, rowRefusal};
+ghost use Rattle.layout.specs.Row.{accessAt, taskOf, ownerSound, countsSound, accessInRange, accessesSound, namedOnce, operationSound, operationsSound, retirementKept, modesSound, rowRefusal};
 ghost use Rattle.modes.specs.Table.{tableOf, tableLeft};
 
 // The byte of a file at which a task's row starts: 48 bytes on from the row before it, and 32 more where a block ends in between. It is
@@ -155,6 +155,21 @@ fn operations_sound(row: &[u8], cells: u32) -> bool
     octets::all_zero(&row[from..48])
 }
 
+// 18: no operation is of code 6, where that is retired. Unused operations are zero by then, so the six codes of a row are compared.
+fn retirement_kept(row: &[u8], retired: bool) -> bool
+    requires { ⌜ length (now row) ≡ 48 ⌝ }
+    requires { ⌜ countsSound (now row) ≡ true ⌝ }
+    requires { ⌜ operationsSound mostCells (now row) ≡ true ⌝ }
+    ensures { λ r. ⌜ r ≡ retirementKept retired (taskOf (now (row .entry))) ⌝ }
+{
+    if !retired {
+        return true;
+    }
+    let first = (row[12] == 6) | (row[18] == 6) | (row[24] == 6);
+    let last = (row[30] == 6) | (row[36] == 6) | (row[42] == 6);
+    !(first | last)
+}
+
 // 11: every operation keeps to the modes. From then on the cell that it wrote may be read. The table as they leave it; 0 where one
 // doesn't.
 fn modes_left(row: &[u8], table: u64) -> u64
@@ -182,11 +197,11 @@ fn modes_left(row: &[u8], table: u64) -> u64
     modes
 }
 
-// The first of 6 to 11 that the row breaks, or 17; 0 where it breaks none.
-pub fn refusal(row: &[u8], workers: u32, cells: u32) -> u32
+// The first of 6 to 11 that the row breaks, or 18 or 17 in their places; 0 where it breaks none. The caller says whether operation 6 is retired.
+pub fn refusal(row: &[u8], retired: bool, workers: u32, cells: u32) -> u32
     requires { ⌜ length (now row) ≡ 48 ⌝ }
     requires { ⌜ cells ≤ mostCells ⌝ }
-    ensures { λ r. ⌜ r ≡ rowRefusal workers cells (now (row .entry)) ⌝ }
+    ensures { λ r. ⌜ r ≡ rowRefusal retired workers cells (now (row .entry)) ⌝ }
 {
     if !owner_sound(row, workers) {
         return 6;
@@ -203,6 +218,9 @@ pub fn refusal(row: &[u8], workers: u32, cells: u32) -> u32
     }
     if !operations_sound(row, cells) {
         return 10;
+    }
+    if !retirement_kept(row, retired) {
+        return 18;
     }
     let left = modes_left(row, modes);
     if left == 0 {

@@ -31,6 +31,7 @@ pub mod Put
 pub mod Reach
 pub mod Reading
 pub mod Registered
+pub mod Retired
 pub mod Rows
 pub mod Scan
 pub mod Seen

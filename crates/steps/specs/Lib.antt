@@ -19,3 +19,4 @@ pub mod Auditor
 pub mod Waiting
 pub mod Longest
 pub mod Versions
+pub mod Retired

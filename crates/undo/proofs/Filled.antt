@@ -1,6 +1,6 @@
 -- A call that fills lent bytes asks its rules first and the room last. So its answer is 0 exactly where the rules are kept and the bytes fit, and
--- then the bytes stand first; and where the rules are kept and the bytes do not fit, it is 16.
-use mathlib.Core.Path.{_≡_, sym, ap, _∙_}
+-- then the bytes stand first; where the rules are kept and the bytes do not fit, it is 16; and where a rule is not kept, it is the rules' refusal.
+use mathlib.Core.Path.{_≡_, refl, sym, ap, _∙_}
 use mathlib.Core.List.{List}
 use Prim.Native.Nat.{ℕ, _<_, _≤_}
 use borrow.Author.Tests.{leb-true}
@@ -11,7 +11,8 @@ use Rattle.layout.specs.Refusal as Rules
 use Rattle.layout.specs.Refusal.{success, refusal, unless, orElse}
 use Rattle.layout.specs.File.{lentAfter}
 use Rattle.roundtrip.proofs.NoRefusal.{kept, both-zero}
-use Rattle.file.proofs.Order.{long-enough, too-short}
+use Rattle.file.proofs.Order.{first-given, long-enough, too-short}
+use Rattle.file.proofs.Outcomes.{lent-kept}
 
 -- the answer that is met: that of the rules, and 16 where less is lent than needed
 abbrev met : Rules.Answer → ℕ → List ℕ → Rules.Answer
@@ -68,3 +69,10 @@ module _ {A : Type 0} {number : A → ℕ} {tells : Rules.Answer → A} {rules :
     refused-16 room =
         let short = too-short rules none needed (length lent) room in
         (tells-it short, leaves short)
+
+  -- ---- a rule is not kept
+
+  pub refused-first : (rules .number ≡ 0 → ⊥) → (r ≡ tells rules) × (after ≡ lent)
+  refused-first some =
+      let first = first-given rules rules _ refl some in
+      (tells-it first, leaves first ∙ sym (lent-kept rules some bytes lent))

@@ -2,11 +2,14 @@
 -- one is called on what the other has written. `proofs/Theorems.antt` proves it of every outcome that their contracts allow, where the first of
 -- the two calls is no refusal.
 use mathlib.Core.Path.{_≡_}
+use mathlib.Core.Bool.{true, false}
 use mathlib.Core.List.{List}
 use Prim.Native.Nat.{ℕ, _*_, _<_, _≤_}
 use lib.ListN.{length, take, drop}
 use Rattle.layout.specs.Refusal.{refusal}
+use Rattle.layout.specs.File.{flowOf}
 use Rattle.layout.specs.Write.{rowCount}
+use Rattle.roundtrip.specs.Larger.{withoutLarger, FirstLarger}
 use Rattle.reader.specs.declared.ReadAnswer.{ReadAnswer}
 use Rattle.reader.specs.Answers.{readRefused}
 use Rattle.reader.specs.Promises.{ReadPromise}
@@ -61,11 +64,22 @@ pub record ReaderAfterWriter (rows : List ℕ) (version workers cells : ℕ) (w 
 
 -- after a read of a file that is no refusal: the rows read are the first `r .bytes` of the lent rows
 pub record WriterAfterReader (file : List ℕ) (r : ReadAnswer) (lent-after : List ℕ) : Type 0 where
-  -- whoever writes them, with the version, the workers and the cells that were answered, into any lent output that is long enough, has the file again
-  pub comes-back : (out : List ℕ) (w : WriteAnswer) (out-after : List ℕ) → length file ≤ length out
+  -- without operation 6: whoever writes them, with the version, the workers and the cells that were answered, into any lent output that is long
+  -- enough, has the file again
+  pub comes-back : withoutLarger (flowOf file) ≡ true
+      → (out : List ℕ) (w : WriteAnswer) (out-after : List ℕ)
+      → length file ≤ length out
       → WritePromise (take (r .bytes) lent-after) (r .version) (r .workers) (r .cells) out w out-after
       → WriteGives file out w out-after
   -- into a shorter one: 16, place 0, zero bytes, and no lent byte changed
-  pub too-short : (out : List ℕ) (w : WriteAnswer) (out-after : List ℕ) → length out < length file
+  pub too-short : withoutLarger (flowOf file) ≡ true
+      → (out : List ℕ) (w : WriteAnswer) (out-after : List ℕ)
+      → length out < length file
       → WritePromise (take (r .bytes) lent-after) (r .version) (r .workers) (r .cells) out w out-after
       → (w ≡ writeRefused (refusal 16 0)) × (out-after ≡ out)
+  -- with operation 6, into any lent output: 18, the first task that has it, zero bytes, and no lent byte changed
+  pub refused : withoutLarger (flowOf file) ≡ false
+      → (task : ℕ) × FirstLarger (flowOf file) task
+      × ((out : List ℕ) (w : WriteAnswer) (out-after : List ℕ)
+      → WritePromise (take (r .bytes) lent-after) (r .version) (r .workers) (r .cells) out w out-after
+      → (w ≡ writeRefused (refusal 18 task)) × (out-after ≡ out))

@@ -9,7 +9,7 @@ use lib.ListN.{length}
 use Rattle.layout.specs.Flow.{knownVersion, mostRowBytes, inRange}
 use Rattle.layout.specs.Refusal as Rules
 use Rattle.layout.specs.Refusal.{refusal, firstAt}
-use Rattle.layout.specs.Row.{rowRefusal}
+use Rattle.layout.specs.Row.{retiredInWriter, rowRefusal}
 use Rattle.layout.specs.Write.{rowCount, rowsSound, rowOfTask, rowsAnswer, writeAnswer}
 use Rattle.file.proofs.Whole.{WholePieces}
 
@@ -19,8 +19,9 @@ unfolding writeAnswer rowsAnswer
 rows-refused rows version workers cells room h = rw h
 
 -- the first refusal among given rows
-abbrev pub fromGiven : List ℕ → ℕ → ℕ → ℕ → Rules.Answer
-fromGiven rows tasks workers cells = firstAt (λ task. rowRefusal workers cells (rowOfTask rows task)) 1 tasks
+abbrev pub fromGiven : List ℕ → ℕ → ℕ → ℕ → ℕ → Rules.Answer
+fromGiven rows version tasks workers cells =
+    firstAt (λ task. rowRefusal (retiredInWriter version) workers cells (rowOfTask rows task)) 1 tasks
 
 module _ (rows : List ℕ) (version tasks workers cells : ℕ) (whole : WholePieces 48 mostRowBytes (length rows) tasks) where
   pub version-refused : (room : ℕ) → knownVersion version ≡ false → refusal 22 0 ≡ writeAnswer rows version workers cells room
@@ -34,8 +35,8 @@ module _ (rows : List ℕ) (version tasks workers cells : ℕ) (whole : WholePie
         let range : inRange (rowCount rows) workers cells ≡ false = rw (whole .count-is) at h in
         rw (whole .sound, known, range)
 
-    pub given-answers : inRange tasks workers cells ≡ true → fromGiven rows tasks workers cells ≡ rowsAnswer rows version workers cells
+    pub given-answers : inRange tasks workers cells ≡ true → fromGiven rows version tasks workers cells ≡ rowsAnswer rows version workers cells
     unfolding rowsAnswer
     given-answers h =
         let range : inRange (rowCount rows) workers cells ≡ true = rw (whole .count-is) at h in
-        ap (λ (k : ℕ). fromGiven rows k workers cells) (whole .count-is) ∙ (rw (whole .sound, known, range))
+        ap (λ (k : ℕ). fromGiven rows version k workers cells) (whole .count-is) ∙ (rw (whole .sound, known, range))

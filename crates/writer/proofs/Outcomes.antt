@@ -70,11 +70,11 @@ module _ {rows : List ℕ} {version tasks workers cells : ℕ} {flow : Flow} (f 
   tasks-counted : flow .tasks ≡ rowCount rows
   tasks-counted = f .made .tasks-is ∙ f .whole .count-is
 
-  module _ {met : Answer} (found : met ≡ answerOf (fromGiven rows (flow .tasks) (flow .workers) (flow .cells))) where
+  module _ {met : Answer} (found : met ≡ answerOf (fromGiven rows (flow .version) (flow .tasks) (flow .workers) (flow .cells))) where
     same-given : refusal (met .number) (met .place) ≡ rowsAnswer rows version workers cells
     same-given =
         ap (λ (a : Answer). refusal (a .number) (a .place)) found
-        ∙ (λ i. fromGiven rows (f .made .tasks-is i) (f .made .workers-is i) (f .made .cells-is i))
+        ∙ (λ i. fromGiven rows (f .made .version-is i) (f .made .tasks-is i) (f .made .workers-is i) (f .made .cells-is i))
         ∙ given-answers rows version tasks workers cells (f .whole) (f .made .known) (f .made .range)
 
     pub given-refused : (room : ℕ) → (met .number ≡ 0 → ⊥)

@@ -10,7 +10,7 @@ ghost use Prim.Native.Nat.{_+_, _*_, _/_, _≤_, _<_};
 ghost use lib.ListN.{length, drop};
 ghost use Rattle.layout.specs.Flow.{mostTasks, mostWorkers, mostCells};
 ghost use Rattle.layout.specs.Refusal.{refusal, firstAt};
-ghost use Rattle.layout.specs.Row.{rowRefusal};
+ghost use Rattle.layout.specs.Row.{retiredInWriter, rowRefusal};
 ghost use Rattle.layout.specs.Block.{blocksFor};
 ghost use Rattle.layout.specs.Write.{fileOf, rowsSound, rowOfTask};
 ghost use Rattle.file.specs.Answers.{answerOf};
@@ -53,15 +53,15 @@ fn whole_rows(bytes: usize) -> u32
     (bytes / 48) as u32
 }
 
-// The first refusal among given rows.
+// The first refusal among given rows. Operation 6 is retired in either version.
 fn given_met(rows: &[u8], flow: Flow) -> Answer
     requires { ⌜ (length (now rows) ≡ 48 * flow .tasks) × (flow .tasks ≤ mostTasks) × (flow .cells ≤ mostCells) ⌝ }
-    ensures { λ r. ⌜ r ≡ answerOf (firstAt (λ task. rowRefusal (flow .workers) (flow .cells) (rowOfTask (now (rows .entry)) task)) 1 (flow .tasks)) ⌝ }
+    ensures { λ r. ⌜ r ≡ answerOf (firstAt (λ task. rowRefusal (retiredInWriter (flow .version)) (flow .workers) (flow .cells) (rowOfTask (now (rows .entry)) task)) 1 (flow .tasks)) ⌝ }
 {
     let mut task: u32 = 1;
     while task <= flow.tasks {
         let from = octets::offset(48 * (task - 1));
-        let number = row::refusal(&rows[from..from + 48], flow.workers, flow.cells);
+        let number = row::refusal(&rows[from..from + 48], true, flow.workers, flow.cells);
         if number != 0 {
             return Answer {
                 number,

@@ -6,7 +6,7 @@ use borrow.Author.Tests.{not-true, not-false}
 use Rattle.layout.specs.Flow.{mostCells}
 use Rattle.layout.specs.Refusal.{firstBroken}
 use Rattle.layout.specs.Lists.{all}
-use Rattle.layout.specs.Row.{taskOf, ownerSound, countsSound, accessInRange, accessesSound, namedOnce, operationsSound, modesSound, rowRefusal}
+use Rattle.layout.specs.Row.{taskOf, ownerSound, countsSound, accessInRange, accessesSound, namedOnce, operationsSound, retirementKept, modesSound, rowRefusal}
 use Rattle.layout.proofs.Modes.{accesses-more, operations-more}
 use Rattle.modes.specs.Table.{tableOf, tableLeft, noneOwed}
 use Rattle.row.proofs.Told.{told-kept, told-broken}
@@ -33,8 +33,11 @@ past-9 c = past-8 (c .before .before)
 abbrev past-10 : tie.Else5 → tie.Start
 past-10 c = past-9 (c .before .before)
 
-abbrev past-11 : tie.Else6 → tie.Start
-past-11 c = past-10 (c .before .before)
+abbrev past-18 : tie.Else6 → tie.Start
+past-18 c = past-10 (c .before .before)
+
+abbrev past-11 : tie.Else7 → tie.Start
+past-11 c = past-18 (c .before .before)
 
 -- and the place of the rule before
 abbrev back-to-6 : tie.Else2 → tie.Else1
@@ -51,6 +54,9 @@ back-to-9 c = c .before .before
 
 abbrev back-to-10 : tie.Else6 → tie.Else5
 back-to-10 c = c .before .before
+
+abbrev back-to-18 : tie.Else7 → tie.Else6
+back-to-18 c = c .before .before
 
 -- ---- what each rule tells once it is kept
 
@@ -71,10 +77,13 @@ kept-9 c = told-kept _ _ (c .before .modes-of .ensures) (c .if4 .left)
 kept-10 : (c : tie.Else5) → operationsSound (past-10 c .args .cells) (past-10 c .args .row .now) ≡ true
 kept-10 c = sym (c .before .operations-sound .ensures) ∙ not-false _ (c .if5 .left)
 
+kept-18 : (c : tie.Else6) → retirementKept (past-18 c .args .retired) (taskOf (past-18 c .args .row .now)) ≡ true
+kept-18 c = sym (c .before .retirement-kept .ensures) ∙ not-false _ (c .if6 .left)
+
 -- and the table is then the one that the operations leave
-kept-11 : (c : tie.Else6)
+kept-11 : (c : tie.Else7)
     → (modesSound (taskOf (past-11 c .args .row .now)) ≡ true) × (c .before .modes-left .result ≡ tableLeft (taskOf (past-11 c .args .row .now)))
-kept-11 c = told-kept _ _ (c .before .modes-left .ensures) (c .if6 .left)
+kept-11 c = told-kept _ _ (c .before .modes-left .ensures) (c .if7 .left)
 
 -- ---- the rules in their order
 
@@ -122,17 +131,12 @@ returns-5 c =
     let seven = back-to-7 eight in
     rw (kept-6 (back-to-6 seven), kept-7 seven, kept-8 eight, kept-9 nine .0, sym (c .before .operations-sound .ensures) ∙ not-true _ (c .if5 .taken))
 
-modes-left-requires : tie.Need-modes-left-requires
-modes-left-requires c κs =
-    let start = past-10 c in
-    let nine = back-to-9 c in
-    let eight = back-to-8 nine in (
-      start .pre .0,
-      (
-        kept-7 (back-to-7 eight),
-        (named eight, (kept-9 nine .0, (operations-more _ mostCells _ (start .pre .1) (kept-10 c), kept-9 nine .1))),
-      ),
-    )
+-- the operations are within the cells that a flow can have
+within : (c : tie.Else5) → operationsSound mostCells (past-10 c .args .row .now) ≡ true
+within c = operations-more _ mostCells _ (past-10 c .pre .1) (kept-10 c)
+
+retirement-kept-requires : tie.Need-retirement-kept-requires
+retirement-kept-requires c κs = (past-10 c .pre .0, (kept-7 (back-to-7 (back-to-8 (back-to-9 c))), within c))
 
 returns-6 : tie.Need-returns-6
 unfolding rowRefusal firstBroken
@@ -141,39 +145,58 @@ returns-6 c =
     let nine = back-to-9 ten in
     let eight = back-to-8 nine in
     let seven = back-to-7 eight in
-    let row = past-10 ten .args .row .now in
+    rw
+    (kept-6 (back-to-6 seven), kept-7 seven, kept-8 eight, kept-9 nine .0, kept-10 ten, sym (c .before .retirement-kept .ensures) ∙ not-true _ (c .if6 .taken))
+
+modes-left-requires : tie.Need-modes-left-requires
+modes-left-requires c κs =
+    let ten = back-to-10 c in
+    let nine = back-to-9 ten in
+    let eight = back-to-8 nine in
+    (past-18 c .pre .0, (kept-7 (back-to-7 eight), (named eight, (kept-9 nine .0, (within ten, kept-9 nine .1)))))
+
+returns-7 : tie.Need-returns-7
+unfolding rowRefusal firstBroken
+returns-7 c =
+    let eighteen = c .before .before in
+    let ten = back-to-10 eighteen in
+    let nine = back-to-9 ten in
+    let eight = back-to-8 nine in
+    let seven = back-to-7 eight in
+    let row = past-18 eighteen .args .row .now in
     let some = after-some (tableOf (taskOf row .accesses)) (taskOf row .operations) (table-named row (kept-7 seven) (named eight)) in
-    let broken = told-broken (modesSound (taskOf row)) (tableLeft (taskOf row)) (c .before .modes-left .ensures) some (c .if6 .taken) in
-    rw (kept-6 (back-to-6 seven), kept-7 seven, kept-8 eight, kept-9 nine .0, kept-10 ten, broken)
+    let broken = told-broken (modesSound (taskOf row)) (tableLeft (taskOf row)) (c .before .modes-left .ensures) some (c .if7 .taken) in
+    rw (kept-6 (back-to-6 seven), kept-7 seven, kept-8 eight, kept-9 nine .0, kept-10 ten, kept-18 eighteen, broken)
 
 -- where the function starts, as seen once rule 17 is asked
 abbrev at-17 : tie.After-none-owed → tie.Start
 at-17 c = past-11 (c .before)
 
 last-rule : (c : tie.After-none-owed)
-    → rowRefusal (at-17 c .args .workers) (at-17 c .args .cells) (at-17 c .args .row .now) ≡ cond (c .none-owed .result) 0 17
+    → rowRefusal (at-17 c .args .retired) (at-17 c .args .workers) (at-17 c .args .cells) (at-17 c .args .row .now) ≡ cond (c .none-owed .result) 0 17
 unfolding rowRefusal firstBroken
 last-rule c =
     let eleven = c .before in
-    let ten = back-to-10 eleven in
+    let eighteen = back-to-18 eleven in
+    let ten = back-to-10 eighteen in
     let nine = back-to-9 ten in
     let eight = back-to-8 nine in
     let seven = back-to-7 eight in
     let made =
     c .none-owed .ensures ∙ ap noneOwed (kept-11 eleven .1)
     ∙ owed-same (taskOf (at-17 c .args .row .now)) (named eight) (kept-9 nine .0) (kept-11 eleven .0) in
-    rw (kept-6 (back-to-6 seven), kept-7 seven, kept-8 eight, kept-9 nine .0, kept-10 ten, kept-11 eleven .0, made)
-
-returns-7 : tie.Need-returns-7
-returns-7 c = rw (last-rule (c .before), not-true (c .before .none-owed .result) (c .if7 .taken))
+    rw (kept-6 (back-to-6 seven), kept-7 seven, kept-8 eight, kept-9 nine .0, kept-10 ten, kept-18 eighteen, kept-11 eleven .0, made)
 
 returns-8 : tie.Need-returns-8
-returns-8 c = rw (last-rule (c .before), not-false (c .before .none-owed .result) (c .if7 .left))
+returns-8 c = rw (last-rule (c .before), not-true (c .before .none-owed .result) (c .if8 .taken))
+
+returns-9 : tie.Need-returns-9
+returns-9 c = rw (last-rule (c .before), not-false (c .before .none-owed .result) (c .if8 .left))
 
 pub refusal-spec : {M : Type 1} → statement M
 refusal-spec =
     tie.close
     (tie.spec
     (λ c κs. search needs) returns (λ c κs. search needs) returns-2 accesses-sound-requires returns-3
-    modes-of-requires returns-4 operations-sound-requires returns-5 modes-left-requires returns-6
-    (λ c κs. search needs) returns-7 returns-8)
+    modes-of-requires returns-4 operations-sound-requires returns-5 retirement-kept-requires returns-6 modes-left-requires
+    returns-7 (λ c κs. search needs) returns-8 returns-9)

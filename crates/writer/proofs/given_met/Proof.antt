@@ -3,7 +3,7 @@
 use mathlib.Core.List.{List}
 use Prim.Native.Nat.{ℕ, _+_, _-_}
 use borrow.Author.Needs.{needs}
-use Rattle.layout.specs.Row.{rowRefusal}
+use Rattle.layout.specs.Row.{retiredInWriter, rowRefusal}
 use Rattle.layout.specs.Write.{rowOfTask}
 use Rattle.flow.specs.declared.Flow.{Flow}
 use Rattle.file.proofs.Places.{Left, begun, passed, refused, done}
@@ -12,7 +12,7 @@ use Rattle.writer.proofs.given_met.Tie as tie
 
 -- the first rule that a task's row breaks
 abbrev number : List ℕ → Flow → ℕ → ℕ
-number rows flow task = rowRefusal (flow .workers) (flow .cells) (rowOfTask rows task)
+number rows flow task = rowRefusal (retiredInWriter (flow .version)) (flow .workers) (flow .cells) (rowOfTask rows task)
 
 abbrev Inv-loop : tie.InvT-loop
 Inv-loop rows flow task₀ task = Left (number rows flow) 1 (flow .tasks) task

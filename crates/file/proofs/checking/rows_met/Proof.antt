@@ -3,7 +3,7 @@
 use mathlib.Core.List.{List}
 use Prim.Native.Nat.{ℕ, _+_, _-_}
 use borrow.Author.Needs.{needs}
-use Rattle.layout.specs.Row.{rowRefusal}
+use Rattle.layout.specs.Row.{retiredInReader, rowRefusal}
 use Rattle.layout.specs.File.{rowAt}
 use Rattle.block.specs.declared.Sizes.{Sizes}
 use Rattle.file.proofs.Places.{Left, begun, passed, refused, done}
@@ -11,14 +11,14 @@ use Rattle.file.proofs.checking.rows_met.Statement.{statement}
 use Rattle.file.proofs.checking.rows_met.Tie as tie
 
 -- the first rule that a task's row breaks
-abbrev number : List ℕ → Sizes → ℕ → ℕ
-number file sizes task = rowRefusal (sizes .workers) (sizes .cells) (rowAt file task)
+abbrev number : List ℕ → ℕ → Sizes → ℕ → ℕ
+number file version sizes task = rowRefusal (retiredInReader version) (sizes .workers) (sizes .cells) (rowAt file task)
 
 abbrev Inv-loop : tie.InvT-loop
-Inv-loop file sizes task₀ task = Left (number file sizes) 1 (sizes .tasks) task
+Inv-loop file version sizes task₀ task = Left (number file version sizes) 1 (sizes .tasks) task
 
 abbrev μ-loop : tie.MeasureT-loop
-μ-loop file sizes task₀ task = sizes .tasks + 1 - task
+μ-loop file version sizes task₀ task = sizes .tasks + 1 - task
 
 loop-holds : tie.Need-loop-holds Inv-loop μ-loop
 loop-holds c = begun _ 1 _
