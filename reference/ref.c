@@ -32,6 +32,9 @@ enum {
 /* A row: four accesses of two bytes, then six operations of six. */
 enum { ACCESSES_AT = 4, ACCESS = 2, OPERATIONS_AT = 12, OPERATION = 6 };
 
+/* The code of "a becomes the larger of a and b", the last of the table. */
+enum { LARGER = 6 };
+
 /* "Modes: 1 read, 2 write only, 3 read and write." */
 enum { MODE_READ = 1, MODE_WRITE = 2, MODE_BOTH = 3 };
 
@@ -52,6 +55,7 @@ struct flow {
     uint32_t workers;
     uint32_t cells;
     uint32_t total;
+    bool retired; /* whether operation 6 is refused: see check_operations */
 };
 
 /* ---- bytes ------------------------------------------------------------- */
@@ -92,7 +96,7 @@ uint32_t ref_fletcher(const uint8_t *bytes, size_t length)
     return a % 255 | (b % 255) << 8;
 }
 
-/* ---- the check of a row: refusals 6 to 11, then 17 --------------------- */
+/* ---- the check of a row: refusals 6 to 11, 17 and 18 ------------------- */
 
 /* What the operations of a task may do, a bit for each cell. */
 struct rights {
@@ -140,7 +144,7 @@ static uint32_t check_accesses(const uint8_t *row, uint32_t cells,
 static bool operation_formed(const uint8_t *operation, uint32_t cells)
 {
     uint32_t code = operation[0];
-    if (code < 1 || code > 6)
+    if (code < 1 || code > LARGER)
         return false;
     if (operation[1] >= cells || operation[2] >= cells || operation[3] != 0)
         return false;
@@ -166,21 +170,29 @@ static uint32_t cells_read(const uint8_t *operation)
 }
 
 /*
+ * 18: "Version 2 flows may not use" operation 6, "and the writer no longer
+ * writes it in either version" (02, Q-9). It is "after 10 and before 11 on the
+ * same task".
+ *
  * 11: "an operation reads or writes against the modes". A cell of mode 2 may
  * be read "once an earlier operation of the same task has written it", so a
- * write gives the right to read to the operations after it. 10 comes first,
- * whichever operation it is at.
+ * write gives the right to read to the operations after it.
+ *
+ * 10 comes first, whichever operation it is at, then 18, whichever it is at.
  */
-static uint32_t check_operations(const uint8_t *row, uint32_t cells,
+static uint32_t check_operations(const uint8_t *row, const struct flow *flow,
                                  struct rights rights)
 {
     const uint8_t *operation = row + OPERATIONS_AT;
     uint32_t used = row[2];
+    bool larger = false;
     bool against = false;
 
     for (uint32_t i = 0; i < used; i++, operation += OPERATION) {
-        if (!operation_formed(operation, cells))
+        if (!operation_formed(operation, flow->cells))
             return 10;
+        if (operation[0] == LARGER)
+            larger = true;
         uint32_t written = UINT32_C(1) << operation[1];
         if ((cells_read(operation) & ~rights.read) != 0 || (written & rights.write) == 0)
             against = true;
@@ -188,6 +200,8 @@ static uint32_t check_operations(const uint8_t *row, uint32_t cells,
     }
     if (!all_zero(operation, (MAX_OPERATIONS - used) * OPERATION))
         return 10;
+    if (larger && flow->retired)
+        return 18;
     return against ? 11 : 0;
 }
 
@@ -214,8 +228,8 @@ static uint32_t check_written(const uint8_t *row)
     return 0;
 }
 
-/* 6 to 11 on one task, in that order, then 17; 0 if none. Adds its part of the
-   total. */
+/* 6 to 10 on one task, in that order, then 18, 11 and 17; 0 if none. Adds its
+   part of the total. */
 static uint32_t check_row(const uint8_t *row, struct flow *flow)
 {
     struct rights rights = {0, 0};
@@ -229,17 +243,27 @@ static uint32_t check_row(const uint8_t *row, struct flow *flow)
         return number;
     /* "1 for each operation, and workers less 1" */
     flow->total += row[2] + flow->workers - 1;
-    number = check_operations(row, flow->cells, rights);
+    number = check_operations(row, flow, rights);
     return number != 0 ? number : check_written(row);
 }
 
-uint32_t ref_row(const uint8_t *row, uint32_t workers, uint32_t cells)
+/* 18 is given "in readers for version 2 only" (02, Q-9). */
+static bool retired_for_readers(uint32_t version)
 {
-    struct flow flow = {.tasks = 1, .workers = workers, .cells = cells};
+    return version == 2;
+}
+
+uint32_t ref_row(const uint8_t *row, uint32_t version, uint32_t workers, uint32_t cells)
+{
+    struct flow flow = {.version = version,
+                        .tasks = 1,
+                        .workers = workers,
+                        .cells = cells,
+                        .retired = retired_for_readers(version)};
     return cells > MAX_CELLS ? 4 : check_row(row, &flow);
 }
 
-/* ---- the check of a file: refusals 1 to 11 and 17 ---------------------- */
+/* ---- the check of a file: refusals 1 to 11, 17 and 18 ------------------ */
 
 static bool within(uint32_t value, uint32_t most)
 {
@@ -324,7 +348,8 @@ static const uint8_t *row_at(const uint8_t *file, uint32_t index)
 /*
  * "Order: 1; then 2 to 5 on block 0, then on block 1, and so on; then 6 to 11
  * on task 1, then task 2, and so on. The first one met is given." 17 is
- * "directly after 11 on the same task and before 6 on the next" (02, Q-6).
+ * "directly after 11 on the same task and before 6 on the next" (02, Q-6). 18
+ * is "after 10 and before 11 on the same task" (02, Q-9).
  */
 static uint32_t check_file(const uint8_t *file, size_t file_len,
                            struct flow *flow, uint32_t *place)
@@ -342,6 +367,7 @@ static uint32_t check_file(const uint8_t *file, size_t file_len,
             return number;
         }
     }
+    flow->retired = retired_for_readers(flow->version);
     for (uint32_t index = 0; index < flow->tasks; index++) {
         uint32_t number = check_row(row_at(file, index), flow);
         if (number != 0) {
@@ -372,7 +398,7 @@ uint32_t ref_check(const uint8_t *file, size_t file_len,
 
 /* ---- the reader -------------------------------------------------------- */
 
-/* 1 to 11 and 17 of the file, then "the reader 16". */
+/* 1 to 11, 17 and 18 of the file, then "the reader 16". */
 static uint32_t check_read(const uint8_t *file, size_t file_len, size_t rows_len,
                            struct flow *flow, uint32_t *place)
 {
@@ -412,7 +438,8 @@ uint32_t ref_read(const uint8_t *file, size_t file_len,
  * "The writer, given rows, workers and cells, has 15, 4, 6 to 11, 16." With 11
  * comes 17: it "holds for every call that checks a flow" (02, Q-6). The writer
  * "is told which to write" of the versions, and "gives 22 for another version,
- * after 15 and before 4" (02, Q-8).
+ * after 15 and before 4" (02, Q-8). 18 is given "in the writer for both
+ * versions" (02, Q-9).
  */
 static uint32_t check_write(const uint8_t *rows, size_t rows_len,
                             uint32_t version, uint32_t workers, uint32_t cells,
@@ -425,7 +452,7 @@ static uint32_t check_write(const uint8_t *rows, size_t rows_len,
         return 22;
     if (!within(workers, MAX_WORKERS) || !within(cells, MAX_CELLS))
         return 4;
-    *flow = (struct flow){version, (uint32_t)(rows_len / ROW), workers, cells, 0};
+    *flow = (struct flow){version, (uint32_t)(rows_len / ROW), workers, cells, 0, true};
     for (uint32_t index = 0; index < flow->tasks; index++) {
         uint32_t number = check_row(rows + index * ROW, flow);
         if (number != 0) {
@@ -507,14 +534,14 @@ static void operate(const uint8_t *operation, uint32_t version, uint32_t *cells)
     case 5:
         *a = swapped(b, version);
         break;
-    default:
+    default: /* LARGER */
         if (*a < b)
             *a = b;
         break;
     }
 }
 
-/* 1 to 11 and 17 of the file, then "the plain run 12 only". */
+/* 1 to 11, 17 and 18 of the file, then "the plain run 12 only". */
 static uint32_t check_start(const uint8_t *file, size_t file_len, size_t cells_len,
                             struct flow *flow, uint32_t *place)
 {
@@ -769,7 +796,7 @@ static void start(struct run *run, const uint8_t *file, uint32_t *cells,
     }
 }
 
-/* 1 to 11, 17 and 12, then 13, then 14 at the first byte that names no
+/* 1 to 11, 17, 18 and 12, then 13, then 14 at the first byte that names no
    worker. */
 static uint32_t check_run(const uint8_t *file, size_t file_len, size_t cells_len,
                           const uint8_t *schedule, size_t schedule_len,

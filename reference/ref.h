@@ -29,9 +29,10 @@ uint32_t ref_run(const uint8_t *file, size_t file_len,
                  const uint8_t *schedule, size_t schedule_len,
                  sflw_run_answer *answer);
 
-/* The check of one row of 48 bytes by itself: the first of 6 to 11 and
-   then 17 that it breaks, 0 if none; 4 where the cells are over 32. */
-uint32_t ref_row(const uint8_t *row, uint32_t workers, uint32_t cells);
+/* The check of one row of 48 bytes by itself, as a reader of a file of this
+   version, 1 or 2, makes it: the first of 6 to 10, 18, 11 and 17 that the row
+   breaks, 0 if none; 4 where the cells are over 32. */
+uint32_t ref_row(const uint8_t *row, uint32_t version, uint32_t workers, uint32_t cells);
 
 /* Fletcher's check of 01 over any number of bytes up to 5,000: A in the low
    byte, B in the next. Here for the published vectors. */

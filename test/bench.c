@@ -89,9 +89,11 @@ static uint32_t nothing_run(const uint8_t *file, size_t file_len, uint32_t *star
     return 0;
 }
 
-static uint32_t nothing_row(const uint8_t *row, uint32_t workers, uint32_t count)
+static uint32_t nothing_row(const uint8_t *row, uint32_t version, uint32_t workers,
+                            uint32_t count)
 {
     (void)row;
+    (void)version;
     (void)workers;
     (void)count;
     return 0;
@@ -105,7 +107,7 @@ static const struct calls tables[] = {
 };
 
 /* The check of a row by itself, which is no call of the library. */
-static uint32_t (*const row_checks[])(const uint8_t *, uint32_t, uint32_t) = {
+static uint32_t (*const row_checks[])(const uint8_t *, uint32_t, uint32_t, uint32_t) = {
     [LIBRARY] = row_alone,
     [REFERENCE] = ref_row,
     [NOTHING] = nothing_row,
@@ -113,8 +115,9 @@ static uint32_t (*const row_checks[])(const uint8_t *, uint32_t, uint32_t) = {
 
 /* ---- what is measured -------------------------------------------------- */
 
-/* The flow that is measured, of version 1 where nothing else is said, its file,
-   and two schedules that just finish. */
+/* The flow that is measured, of version 1 where nothing else is said and without
+   operation 6, which the writer refuses, its file, and two schedules that just
+   finish. */
 struct setting {
     struct sample flow;
     uint8_t file[MOST_FILE];
@@ -154,7 +157,7 @@ static size_t just_finishes(const uint8_t *schedule)
 static void make_setting(uint32_t tasks, uint32_t workers, uint32_t cell_count)
 {
     struct random random = random_of_case(9450, 0);
-    make_full_flow(&random, &set.flow, tasks, workers, cell_count);
+    make_full_flow(&random, &set.flow, tasks, workers, cell_count, FIVE_CODES);
     set.file_len = make_file(&set.flow, set.file);
     for (uint32_t i = 0; i < MOST_SCHEDULE; i++) {
         set.fair[i] = (uint8_t)(i % workers);
@@ -298,7 +301,7 @@ static void measure_line(const char *what, job *once, job *less, double units)
            measured.times[REFERENCE] / units, measured.ratio);
 }
 
-/* The same rows in version 2: about one operation in six is the swap. The steps
+/* The same rows in version 2: about one operation in five is the swap. The steps
    of a run are the same, so that both schedules stay. */
 static void turn_to_version_2(void)
 {
@@ -407,7 +410,7 @@ static void call_case(const struct calls *calls)
 static void call_current(enum side side)
 {
     if (current_row != NULL)
-        row_checks[side](current_row, current.workers, current.cells);
+        row_checks[side](current_row, current.version, current.workers, current.cells);
     else
         call_case(&tables[side]);
 }
@@ -505,8 +508,8 @@ static void measure_call(uint32_t call, uint8_t *stack, size_t deepest[2])
 /* Two row checks that differ are not worth measuring. */
 static void hold_rows_together(void)
 {
-    uint32_t library = row_alone(current_row, current.workers, current.cells);
-    uint32_t reference = ref_row(current_row, current.workers, current.cells);
+    uint32_t library = row_alone(current_row, current.version, current.workers, current.cells);
+    uint32_t reference = ref_row(current_row, current.version, current.workers, current.cells);
     if (library != reference) {
         fprintf(stderr, "bench: a row is %" PRIu32 " to the library, %" PRIu32
                 " to the reference\n", library, reference);
@@ -514,13 +517,16 @@ static void hold_rows_together(void)
     }
 }
 
-/* The rows of the current case of the writer. */
+/* The rows of the current case of the writer, as a reader of each version has
+   them. */
 static void measure_rows(uint8_t *stack, size_t deepest[2])
 {
     for (size_t at = 0; at + ROW_BYTES <= current.input_len; at += ROW_BYTES) {
         current_row = current.input + at;
-        hold_rows_together();
-        measure_current(stack, deepest);
+        for (current.version = 1; current.version <= MOST_VERSION; current.version++) {
+            hold_rows_together();
+            measure_current(stack, deepest);
+        }
     }
     current_row = NULL;
 }

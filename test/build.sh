@@ -23,8 +23,8 @@ flags+=(-I "$top/include" -I "$top/reference" -I "$top/test")
 
 mkdir -p "$to"
 objects=()
-for source in reference/ref test/flows test/cases test/stretches test/named_cases test/lent \
-    test/waiting test/words; do
+for source in reference/ref test/flows test/cases test/stretches test/named_cases \
+    test/larger_cases test/lent test/waiting test/words; do
     object="$to/$(basename "$source").o"
     "$cc" "${flags[@]}" -c "$top/$source.c" -o "$object"
     objects+=("$object")

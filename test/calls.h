@@ -17,9 +17,10 @@ struct calls {
                     sflw_run_answer *);
 };
 
-/* The check of one row by itself, of the crate row_alone: the first of 6 to 11
-   and then 17 that the row breaks, 0 if none; 4 where the cells are over 32. */
-uint32_t row_alone(const uint8_t *row, uint32_t workers, uint32_t cells);
+/* The check of one row by itself, of the crate row_alone, as a reader of a file
+   of this version makes it: the first of 6 to 10, 18, 11 and 17 that the row
+   breaks, 0 if none; 4 where the cells are over 32. */
+uint32_t row_alone(const uint8_t *row, uint32_t version, uint32_t workers, uint32_t cells);
 
 #define LIBRARY_CALLS {"library", sflw_check, sflw_read, sflw_write, sflw_plain, sflw_run}
 #define REFERENCE_CALLS {"reference", ref_check, ref_read, ref_write, ref_plain, ref_run}

@@ -11,8 +11,8 @@ const char *call_name(uint32_t call)
     return names[call <= CALL_RUN ? call : 0];
 }
 
-const uint8_t numbers[NUMBERS] = {0,  1,  2,  3,  4,  5,  6,  7,  8, 9,
-                                  10, 11, 12, 13, 14, 15, 16, 17, 22};
+const uint8_t numbers[NUMBERS] = {0,  1,  2,  3,  4,  5,  6,  7,  8,  9,
+                                  10, 11, 12, 13, 14, 15, 16, 17, 18, 22};
 
 bool is_number(uint32_t number)
 {
@@ -99,16 +99,29 @@ static uint32_t some_cells(struct random *random, enum sizes sizes)
     return chance(random, 250) ? (chance(random, 500) ? 1 : 32) : between(random, 1, 32);
 }
 
-static void some_flow(struct random *random, enum sizes sizes, struct sample *flow)
+/* The codes that may stand in a flow for a call: the writer takes operation 6 in
+   neither version (02, Q-9). */
+static enum codes codes_for(uint32_t call, uint32_t version)
+{
+    return call == CALL_WRITE ? FIVE_CODES : codes_of(version);
+}
+
+/* One flow in four that may have operation 6 has none, so that files of all sizes
+   can be written back. */
+static void some_flow(struct random *random, uint32_t call, enum sizes sizes,
+                      struct sample *flow)
 {
     uint32_t tasks = some_tasks(random, sizes);
     uint32_t workers = some_workers(random);
     uint32_t cells = some_cells(random, sizes);
+    uint32_t version = between(random, 1, MOST_VERSION);
+    enum codes codes = chance(random, 250) ? FIVE_CODES : codes_for(call, version);
+
     if (cells >= 4 && chance(random, 30))
-        make_full_flow(random, flow, tasks, workers, cells);
+        make_full_flow(random, flow, tasks, workers, cells, codes);
     else
-        make_flow(random, flow, tasks, workers, cells);
-    flow->version = between(random, 1, MOST_VERSION);
+        make_flow(random, flow, tasks, workers, cells, codes);
+    flow->version = version;
 }
 
 /* A length around what is needed: mostly that, else shorter or longer. */
@@ -150,12 +163,13 @@ struct fault {
 };
 
 /* The numbers of a file, in the order in which a block or a task has them: 17
-   comes "directly after 11 on the same task" (02, Q-6). */
-static const uint8_t file_numbers[] = {1, 2, 3, 4, 5, 6, 7, 8, 9, 10, 11, 17};
+   comes "directly after 11 on the same task" (02, Q-6), and 18 "after 10 and
+   before 11 on the same task" (02, Q-9). */
+static const uint8_t file_numbers[] = {1, 2, 3, 4, 5, 6, 7, 8, 9, 10, 18, 11, 17};
 
-/* Where the numbers of a task begin there, where the last four do, and how
+/* Where the numbers of a task begin there, where the last five do, and how
    many there are. */
-enum { OF_A_TASK = 5, LAST_FOUR = 8, FILE_NUMBERS = sizeof file_numbers };
+enum { OF_A_TASK = 5, LAST_FIVE = 8, FILE_NUMBERS = sizeof file_numbers };
 
 /* Its index in that order. */
 static uint32_t rank_of(uint32_t number)
@@ -172,8 +186,8 @@ static bool is_of_a_task(uint32_t number)
 }
 
 /* "Order: 1; then 2 to 5 on block 0, then on block 1, and so on; then 6 to 11
-   on task 1, then task 2, and so on." With 17 after 11, and "before 6 on the
-   next" (02, Q-6). */
+   on task 1, then task 2, and so on." With 18 before 11, and with 17 after it and
+   "before 6 on the next" (02, Q-6). */
 static uint32_t order_of(struct fault fault)
 {
     uint32_t first = is_of_a_task(fault.number) ? 0x20000 : 0x10000;
@@ -242,19 +256,36 @@ static void spoil_length(struct random *random, struct test_case *made)
     made->input_len = length;
 }
 
+/* The first of the faults, which is the last here, is the answer. Where operation
+   6 may stand, 18 is no fault; but what it does to a fault after it on the same
+   task is not known. */
+static void refused_for(struct test_case *made, const struct fault *faults, uint32_t count,
+                        enum codes codes)
+{
+    for (uint32_t i = count; i-- > 0;) {
+        if (faults[i].number != 18 || codes == FIVE_CODES) {
+            refused(made, faults[i].number, faults[i].place);
+            return;
+        }
+        if (i > 0 && faults[i - 1].place == faults[i].place)
+            made->known = false;
+    }
+}
+
 /* Makes the faults from the last in the order to the first, so that each is
    made where nothing before it in the order is at fault yet. */
 static void spoil_file(struct random *random, struct test_case *made,
                        const struct sample *flow, uint32_t count)
 {
     struct fault faults[3];
+    enum codes codes = codes_for(made->call, flow->version);
     uint32_t blocks = blocks_of(flow->tasks);
     uint32_t task = some_index(random, flow->tasks);
 
     for (uint32_t i = 0; i < count; i++) {
         uint32_t number = some_number(random, 0);
         if (number == 1 && chance(random, 700))
-            number = some_number(random, LAST_FOUR);
+            number = some_number(random, LAST_FIVE);
         if (!chance(random, 500)) /* else two faults of one task or of one block */
             task = some_index(random, flow->tasks);
         faults[i].number = number;
@@ -271,14 +302,14 @@ static void spoil_file(struct random *random, struct test_case *made,
             spoil_block(random, made->input, blocks, fault.place, fault.number);
         } else {
             spoil_row(random, row_in_file(made->input, fault.place - 1), fault.number,
-                      flow->workers, flow->cells);
+                      flow->workers, flow->cells, codes);
             put_check(made->input + BLOCK_BYTES * ((fault.place - 1) / 10));
         }
     }
-    refused(made, faults[count - 1].number, faults[count - 1].place);
+    refused_for(made, faults, count, codes);
 }
 
-/* The same for rows alone: 6 to 11 and 17. */
+/* The same for the writer's rows alone: 6 to 11, 17 and 18. */
 static void spoil_rows(struct random *random, struct test_case *made,
                        const struct sample *flow, uint32_t count)
 {
@@ -296,9 +327,9 @@ static void spoil_rows(struct random *random, struct test_case *made,
         if (i > 0 && order_of(faults[i - 1]) == order_of(faults[i]))
             continue;
         spoil_row(random, made->input + ROW_BYTES * (faults[i].place - 1), faults[i].number,
-                  flow->workers, flow->cells);
+                  flow->workers, flow->cells, FIVE_CODES);
     }
-    refused(made, faults[count - 1].number, faults[count - 1].place);
+    refused_for(made, faults, count, FIVE_CODES);
 }
 
 /* ---- blind damage ------------------------------------------------------ */
@@ -484,12 +515,34 @@ static void mix_versions(struct random *random, struct test_case *made, uint32_t
     refused(made, 3, first);
 }
 
+/* Operation 6 in many tasks of a file, or of the writer's rows. Where it may not
+   stand, the first that has it is at fault. */
+static void put_larger_in_many(struct random *random, struct test_case *made,
+                               const struct sample *flow)
+{
+    enum codes codes = codes_for(made->call, flow->version);
+    bool writes = made->call == CALL_WRITE;
+    uint32_t share = between(random, 100, 1000);
+
+    made->kind = "operation 6 in many tasks";
+    for (uint32_t i = 0; i < flow->tasks; i++) {
+        uint8_t *row = writes ? made->input + ROW_BYTES * i : row_in_file(made->input, i);
+        if (!chance(random, share))
+            continue;
+        spoil_row(random, row, 18, flow->workers, flow->cells, codes);
+        if (codes == FIVE_CODES)
+            refused(made, 18, i + 1);
+    }
+    if (!writes)
+        put_right_file(made, false);
+}
+
 static void some_file(struct random *random, struct test_case *made,
                       const struct sample *flow)
 {
     uint32_t blocks = blocks_of(flow->tasks);
     /* a run is mostly of a file that is accepted */
-    uint32_t valid = made->call == CALL_RUN ? 800 : made->call == CALL_PLAIN ? 600 : 300;
+    uint32_t valid = made->call == CALL_RUN ? 800 : made->call == CALL_PLAIN ? 600 : 280;
 
     made->kind = "valid file";
     made->input_len = make_file(flow, made->input);
@@ -498,6 +551,8 @@ static void some_file(struct random *random, struct test_case *made,
     uint32_t kind = below(random, 14);
     if (blocks > 1 && chance(random, 100))
         mix_versions(random, made, blocks);
+    else if (chance(random, 30))
+        put_larger_in_many(random, made, flow);
     else if (kind < 7)
         choose_faults(random, made, flow, kind);
     else
@@ -590,9 +645,9 @@ static void spoil_rows_length(struct random *random, struct test_case *made)
 static void some_rows(struct random *random, struct test_case *made,
                       const struct sample *flow)
 {
-    if (chance(random, 400))
+    if (chance(random, 420))
         return;
-    if (chance(random, 400)) {
+    if (chance(random, 440)) {
         made->kind = "rows with faults";
         spoil_rows(random, made, flow, between(random, 1, 3));
     } else if (chance(random, 300)) {
@@ -601,11 +656,13 @@ static void some_rows(struct random *random, struct test_case *made,
         for (uint32_t i = 0; i < count; i++)
             damage_byte(random, made->input + below(random, (uint32_t)made->input_len));
         made->known = false;
+    } else if (chance(random, 40)) {
+        put_larger_in_many(random, made, flow);
     }
 }
 
-/* "15, 4, 6 to 11, 16", with 17 after 11, and 22 "after 15 and before 4": made
-   from the last to the first. */
+/* "15, 4, 6 to 11, 16", with 18 before 11 and 17 after it, and 22 "after 15 and
+   before 4": made from the last to the first. */
 static void some_write(struct random *random, struct test_case *made,
                        const struct sample *flow)
 {
@@ -819,7 +876,7 @@ void make_case(uint64_t seed, uint64_t number, enum sizes sizes, struct test_cas
     made->version = 0;
     made->workers = 0;
     made->cells = 0;
-    some_flow(&random, sizes, &flow);
+    some_flow(&random, made->call, sizes, &flow);
 
     if (made->call == CALL_WRITE) {
         some_write(&random, made, &flow);

@@ -9,10 +9,12 @@
  *
  * Else it shows what was met: how often each number; of each version, how many
  * files were accepted and how many were written; how often 3 was given for a
- * version; for each reason of a held step, in how many runs that were not refused
- * a step was held for it (for 0, in how many none was held), and how many workers
- * of theirs have it as their latest; and how many runs were under stretches, in
- * each of which every worker is named, and how many of those had to finish.
+ * version; how often 18 was given by whom, and how many files with operation 6
+ * were accepted; for each reason of a held step, in how many runs that were not
+ * refused a step was held for it (for 0, in how many none was held), and how many
+ * workers of theirs have it as their latest; and how many runs were under
+ * stretches, in each of which every worker is named, and how many of those had to
+ * finish.
  */
 #define _DEFAULT_SOURCE
 
@@ -40,7 +42,7 @@ static struct test_case current;
 
 static uint64_t seed = 20220127;
 static uint64_t case_number;
-static bool named; /* the case is one of named_cases, and not from the seed */
+static bool named; /* the case is a named one, and not from the seed */
 static const char *volatile inside = "no call";
 
 /* ---- what is met ------------------------------------------------------- */
@@ -53,6 +55,7 @@ struct tally {
     uint64_t accepted[MOST_VERSION + 1]; /* files, by their version */
     uint64_t written[MOST_VERSION + 1];
     uint64_t version_faults[VERSION_FAULTS];
+    uint64_t larger[LARGERS];
     uint64_t known;
     uint64_t finished;
     uint64_t steps;
@@ -108,6 +111,7 @@ static void count_case(void)
     tally.met[current.call][reference_memory.returned]++;
     tally.known += current.known;
     count_version();
+    tally.larger[larger_met(&reference_memory, &current)]++;
     if (current.call == CALL_RUN && reference_memory.returned == 0) {
         sflw_run_answer run = run_answer(&reference_memory);
         count_run(&run);
@@ -156,10 +160,19 @@ static void print_versions(void)
            tally.version_faults[OTHER_IN_BLOCK_1], tally.version_faults[OTHER_LATER]);
 }
 
+static void print_larger(void)
+{
+    printf("18: %" PRIu64 " by readers of version 2; by the writer %" PRIu64 " in version 1, %"
+           PRIu64 " in version 2; operation 6 in %" PRIu64 " accepted files of version 1\n",
+           tally.larger[READER_REFUSED], tally.larger[WRITER_1_REFUSED],
+           tally.larger[WRITER_2_REFUSED], tally.larger[FILE_ACCEPTED]);
+}
+
 static void print_tally(void)
 {
     print_numbers();
     print_versions();
+    print_larger();
     printf("%6s %8s %8s\n", "reason", "runs", "latest");
     for (uint32_t reason = 0; reason < REASONS; reason++)
         printf("%6" PRIu32 " %8" PRIu64 " %8" PRIu64 "\n", reason, tally.runs[reason],
@@ -174,23 +187,34 @@ static bool enough_of(const char *what, uint32_t which, uint64_t met, uint64_t w
     return met >= wanted;
 }
 
-/* Every number and every fault of a version at least 20 times in 100,000 cases.
-   Every version in at least one of four cases that are not refused. Every reason
-   at least once in a hundred runs that are not refused, and as often as a latest
-   one; so too every kind of stretches. */
-static bool enough_met(uint64_t cases)
+/* What may be rare at least 20 times in 100,000 cases: every number, every fault
+   of a version, and all that is done with operation 6. */
+static bool enough_rare(uint64_t cases)
 {
-    uint64_t runs = tally.met[CALL_RUN][0];
+    uint64_t wanted = cases / 5000;
     bool enough = true;
 
     for (uint32_t i = 0; i < NUMBERS; i++)
-        enough &= enough_of("number", numbers[i], met_in_all(numbers[i]), cases / 5000);
+        enough &= enough_of("number", numbers[i], met_in_all(numbers[i]), wanted);
+    for (uint32_t fault = 0; fault < VERSION_FAULTS; fault++)
+        enough &= enough_of("fault of a version", fault, tally.version_faults[fault], wanted);
+    for (uint32_t larger = READER_REFUSED; larger < LARGERS; larger++)
+        enough &= enough_of("way of operation 6", larger, tally.larger[larger], wanted);
+    return enough;
+}
+
+/* Besides, every version in at least one of four cases that are not refused. Every
+   reason at least once in a hundred runs that are not refused, and as often as a
+   latest one; so too every kind of stretches. */
+static bool enough_met(uint64_t cases)
+{
+    uint64_t runs = tally.met[CALL_RUN][0];
+    bool enough = enough_rare(cases);
+
     for (uint32_t version = 1; version <= MOST_VERSION; version++) {
         uint64_t met = tally.accepted[version] + tally.written[version];
         enough &= enough_of("version", version, met, met_in_all(0) / 4);
     }
-    for (uint32_t fault = 0; fault < VERSION_FAULTS; fault++)
-        enough &= enough_of("fault of a version", fault, tally.version_faults[fault], cases / 5000);
     for (uint32_t reason = 0; reason < REASONS; reason++) {
         enough &= enough_of("reason", reason, tally.runs[reason], runs / 100);
         enough &= enough_of("latest reason", reason, tally.latest[reason], runs / 100);
@@ -306,7 +330,8 @@ static bool finished_as_plain(void)
            memcmp(cells, reference_memory.output.at, current.output_len) == 0;
 }
 
-/* Rows that were read make the same file again, in the version that was read. */
+/* Rows that were read make the same file again, in the version that was read; but
+   operation 6 is not written, so that the first task that has it is refused. */
 static bool written_as_read(void)
 {
     static uint8_t file[MOST_FILE];
@@ -314,9 +339,12 @@ static bool written_as_read(void)
 
     if (current.call != CALL_READ || reference_memory.returned != 0)
         return true;
+    uint32_t larger = larger_in_file(current.input, answer_at(&reference_memory, 3));
     ref_write(reference_memory.output.at, answer_at(&reference_memory, 2),
               answer_at(&reference_memory, VERSION_WORD), answer_at(&reference_memory, 4),
               answer_at(&reference_memory, 5), file, MOST_FILE, &written);
+    if (larger != 0)
+        return written.number == 18 && written.place == larger && written.bytes == 0;
     return written.number == 0 && written.bytes == current.input_len &&
            memcmp(file, current.input, current.input_len) == 0;
 }
@@ -372,8 +400,8 @@ static bool named_cases_pass(void)
 {
     bool pass = true;
     named = true;
-    for (uint32_t i = 0; i < named_case_count && pass; i++) {
-        make_named_case(&named_cases[i], &current);
+    for (uint32_t i = 0; i < named_case_count() && pass; i++) {
+        make_named_case(named_case(i), &current);
         pass = named_case_passes();
     }
     for (uint32_t i = 0; i < LONGEST_CASES && pass; i++) {

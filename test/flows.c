@@ -2,6 +2,11 @@
 
 #include <string.h>
 
+enum codes codes_of(uint32_t version)
+{
+    return version == 1 ? SIX_CODES : FIVE_CODES;
+}
+
 /* ---- valid flows ------------------------------------------------------- */
 
 static void put_operation(uint8_t *row, uint32_t index, uint32_t code,
@@ -85,9 +90,9 @@ static uint32_t constant(struct random *random)
 /* One operation that the sets allow, on one of the targets; the cell written
    becomes readable. */
 static void make_operation(struct random *random, uint8_t *row, uint32_t index,
-                           uint32_t *readable, uint32_t targets)
+                           uint32_t *readable, uint32_t targets, enum codes codes)
 {
-    uint32_t code = between(random, 1, 6);
+    uint32_t code = between(random, 1, codes);
     uint32_t a = cell_of(random, targets);
 
     if (*readable == 0)
@@ -114,16 +119,17 @@ static uint32_t unwritten(uint32_t readable, uint32_t writable)
 /* There are at least as many operations as cells of mode 2. Each such cell is
    written: by chance, or where no more operations are left than such cells. */
 static void make_operations(struct random *random, uint8_t *row,
-                            uint32_t readable, uint32_t writable)
+                            uint32_t readable, uint32_t writable, enum codes codes)
 {
     for (uint32_t i = 0; i < row[2]; i++) {
         uint32_t owed = unwritten(readable, writable);
         bool all = count_of(owed) == row[2] - i;
-        make_operation(random, row, i, &readable, all ? owed : writable);
+        make_operation(random, row, i, &readable, all ? owed : writable, codes);
     }
 }
 
-void make_row(struct random *random, uint8_t *row, uint32_t workers, uint32_t hot)
+void make_row(struct random *random, uint8_t *row, uint32_t workers, uint32_t hot,
+              enum codes codes)
 {
     uint32_t accesses = between(random, 1, hot < 4 ? hot : 4);
     uint32_t named = 0;
@@ -143,22 +149,22 @@ void make_row(struct random *random, uint8_t *row, uint32_t workers, uint32_t ho
     }
     if (writable != 0)
         row[2] = (uint8_t)between(random, count_of(unwritten(readable, writable)), 6);
-    make_operations(random, row, readable, writable);
+    make_operations(random, row, readable, writable, codes);
 }
 
 void make_flow(struct random *random, struct sample *flow,
-               uint32_t tasks, uint32_t workers, uint32_t cells)
+               uint32_t tasks, uint32_t workers, uint32_t cells, enum codes codes)
 {
     /* a few hot cells in every other flow, so that workers wait */
     uint32_t hot = chance(random, 500) ? between(random, 1, cells) : cells;
 
     set_sizes(flow, tasks, workers, cells);
     for (uint32_t i = 0; i < tasks; i++)
-        make_row(random, flow->rows + i * ROW_BYTES, workers, hot);
+        make_row(random, flow->rows + i * ROW_BYTES, workers, hot, codes);
 }
 
 void make_full_flow(struct random *random, struct sample *flow,
-                    uint32_t tasks, uint32_t workers, uint32_t cells)
+                    uint32_t tasks, uint32_t workers, uint32_t cells, enum codes codes)
 {
     set_sizes(flow, tasks, workers, cells);
     for (uint32_t i = 0; i < tasks; i++) {
@@ -172,7 +178,7 @@ void make_full_flow(struct random *random, struct sample *flow,
             put_access(row, j, cell, 3);
             named |= UINT32_C(1) << cell;
         }
-        make_operations(random, row, named, named);
+        make_operations(random, row, named, named, codes);
     }
 }
 
@@ -200,9 +206,39 @@ uint32_t blocks_of(uint32_t tasks)
     return tasks / 10 + (tasks % 10 != 0);
 }
 
+static size_t row_offset(uint32_t index)
+{
+    return BLOCK_BYTES * (index / 10) + 16 + ROW_BYTES * (index % 10);
+}
+
 uint8_t *row_in_file(uint8_t *file, uint32_t index)
 {
-    return file + BLOCK_BYTES * (index / 10) + 16 + ROW_BYTES * (index % 10);
+    return file + row_offset(index);
+}
+
+/* Whether one of a row's operations is "the larger of". */
+static bool has_larger(const uint8_t *row)
+{
+    for (uint32_t i = 0; i < 6; i++)
+        if (i < row[2] && row[12 + 6 * i] == 6)
+            return true;
+    return false;
+}
+
+uint32_t larger_in_file(const uint8_t *file, uint32_t tasks)
+{
+    for (uint32_t i = 0; i < tasks; i++)
+        if (has_larger(file + row_offset(i)))
+            return i + 1;
+    return 0;
+}
+
+uint32_t larger_in_rows(const uint8_t *rows, uint32_t tasks)
+{
+    for (uint32_t i = 0; i < tasks; i++)
+        if (has_larger(rows + i * ROW_BYTES))
+            return i + 1;
+    return 0;
 }
 
 /* As 01 says it, byte by byte. */
@@ -386,7 +422,8 @@ static uint32_t all_cells(uint32_t cells)
 
 /* An operation against the modes: it writes a cell of mode 1 or of none, or
    reads one of none or of mode 2 that is not yet written. */
-static void spoil_modes(struct random *random, uint8_t *row, uint32_t cells)
+static void spoil_modes(struct random *random, uint8_t *row, uint32_t cells,
+                        enum codes codes)
 {
     uint32_t all = all_cells(cells);
     uint32_t index = below(random, row[2] < 6 ? row[2] + 1u : 6);
@@ -396,7 +433,7 @@ static void spoil_modes(struct random *random, uint8_t *row, uint32_t cells)
     rights_at(row, index, &readable, &writable);
     uint32_t closed = all & ~writable;
     uint32_t hidden = all & ~readable;
-    uint32_t code = between(random, 1, 6);
+    uint32_t code = between(random, 1, codes);
     if (index == row[2])
         row[2]++;
 
@@ -409,9 +446,9 @@ static void spoil_modes(struct random *random, uint8_t *row, uint32_t cells)
         uint32_t b = cell_of(random, hidden);
         if (readable != 0 && chance(random, 300)) {
             /* codes 3, 4 and 6 read a as well */
-            static const uint8_t codes[] = {3, 4, 6};
-            uint32_t read = cell_of(random, readable);
-            put_operation(row, index, codes[below(random, 3)], b, read, 0);
+            static const uint8_t both[] = {3, 4, 6};
+            uint32_t which = below(random, codes == SIX_CODES ? 3 : 2);
+            put_operation(row, index, both[which], b, cell_of(random, readable), 0);
         } else {
             put_operation(row, index, code == 1 ? 2 : code, a, b, 0);
         }
@@ -435,7 +472,7 @@ static void drop_operation(uint8_t *row, uint32_t index)
 /* No operation writes or reads this cell any more. One that wrote it is gone or
    writes another; one that read it still writes what it wrote, so that all
    others may read what they read. */
-static void turn_away(struct random *random, uint8_t *row, uint32_t cell)
+static void turn_away(struct random *random, uint8_t *row, uint32_t cell, enum codes codes)
 {
     uint32_t others = ~(UINT32_C(1) << cell);
     uint32_t i = 0;
@@ -456,7 +493,7 @@ static void turn_away(struct random *random, uint8_t *row, uint32_t cell)
         }
         if (writes || reads)
             make_operation(random, row, i, &readable,
-                           writes ? writable : UINT32_C(1) << operation[1]);
+                           writes ? writable : UINT32_C(1) << operation[1], codes);
         i++;
     }
 }
@@ -475,7 +512,8 @@ static void add_access(struct random *random, uint8_t *row, uint32_t cell)
 /* A cell of mode 2 that no operation writes, and nothing against the modes: a
    cell of a new access, or one of any access that the operations now leave
    alone. */
-static void leave_unwritten(struct random *random, uint8_t *row, uint32_t cells)
+static void leave_unwritten(struct random *random, uint8_t *row, uint32_t cells,
+                            enum codes codes)
 {
     uint32_t index = below(random, row[1]);
     uint32_t cell = row[4 + 2 * index];
@@ -487,12 +525,98 @@ static void leave_unwritten(struct random *random, uint8_t *row, uint32_t cells)
         add_access(random, row, cell_of(random, unnamed));
         return;
     }
-    turn_away(random, row, cell);
+    turn_away(random, row, cell, codes);
     put_access(row, index, cell, 2);
 }
 
+/* Makes room for an operation; those from there on move down. */
+static void insert_operation(uint8_t *row, uint32_t index)
+{
+    uint8_t *operation = row + 12 + 6 * index;
+
+    memmove(operation + 6, operation, 6 * (5 - index));
+    row[2]++;
+}
+
+/* Whether the operation keeps to the modes and may read the cell that it writes,
+   so that it may be operation 6 on that cell. */
+static bool may_be_larger(const uint8_t *operation, uint32_t readable, uint32_t writable)
+{
+    uint32_t a = UINT32_C(1) << operation[1];
+    uint32_t b = operation[0] == 1 ? 0 : UINT32_C(1) << operation[2];
+
+    return (a & readable & writable) != 0 && (b & ~readable) == 0;
+}
+
+/* Operation 6 at this index: in the place of one that writes the same cell, or
+   put in before it. All that is written and may be read stays as it was. False
+   if there can be none. */
+static bool put_larger_at(struct random *random, uint8_t *row, uint32_t index)
+{
+    uint8_t *operation = row + 12 + 6 * index;
+    uint32_t readable;
+    uint32_t writable;
+
+    rights_at(row, index, &readable, &writable);
+    if (index < row[2] && may_be_larger(operation, readable, writable) &&
+        (row[2] == 6 || chance(random, 500))) {
+        put_operation(row, index, 6, operation[1], cell_of(random, readable), 0);
+        return true;
+    }
+    if (row[2] == 6 || (readable & writable) == 0)
+        return false;
+    uint32_t a = cell_of(random, readable & writable);
+    insert_operation(row, index);
+    put_operation(row, index, 6, a, cell_of(random, readable), 0);
+    return true;
+}
+
+/* Where there can be none: a row without operations, which gets one on a cell
+   that may be written from now on; or one with a fault 11 or 17, of which any
+   operation is operation 6 from now on. */
+static void force_larger(struct random *random, uint8_t *row)
+{
+    if (row[2] == 0) {
+        uint32_t access = below(random, row[1]);
+        uint32_t b = row[4 + 2 * below(random, row[1])];
+        row[2] = 1;
+        row[5 + 2 * access] = 3;
+        put_operation(row, 0, 6, row[4 + 2 * access], b, 0);
+    } else {
+        uint32_t index = below(random, row[2]);
+        const uint8_t *operation = row + 12 + 6 * index;
+        put_operation(row, index, 6, operation[1], operation[2], 0);
+    }
+}
+
+/* Operation 6 at one of the indices at which it can be. */
+static void put_larger(struct random *random, uint8_t *row)
+{
+    uint32_t places = row[2] + 1u;
+    uint32_t first = below(random, places);
+
+    for (uint32_t i = 0; i < places; i++)
+        if (put_larger_at(random, row, (first + i) % places))
+            return;
+    force_larger(random, row);
+}
+
+/* Mostly one operation 6. Where it is a fault, now and then with one beside it
+   that comes after it in the order. */
+static void spoil_codes(struct random *random, uint8_t *row, uint32_t cells, enum codes codes)
+{
+    if (codes == FIVE_CODES && chance(random, 100))
+        leave_unwritten(random, row, cells, codes);
+    if (codes == FIVE_CODES && chance(random, 150))
+        spoil_modes(random, row, cells, SIX_CODES);
+    if (codes == SIX_CODES || !has_larger(row))
+        put_larger(random, row);
+    while (chance(random, 150))
+        put_larger(random, row);
+}
+
 void spoil_row(struct random *random, uint8_t *row, uint32_t number,
-               uint32_t workers, uint32_t cells)
+               uint32_t workers, uint32_t cells, enum codes codes)
 {
     switch (number) {
     case 6:
@@ -508,14 +632,19 @@ void spoil_row(struct random *random, uint8_t *row, uint32_t number,
         name_twice(random, row);
         break;
     case 10:
+        if (chance(random, 100)) /* 10 comes before 18 */
+            put_larger(random, row);
         spoil_operation(random, row, cells);
         break;
     case 11:
-        spoil_modes(random, row, cells);
+        spoil_modes(random, row, cells, codes);
+        break;
+    case 18:
+        spoil_codes(random, row, cells, codes);
         break;
     default:
         do
-            leave_unwritten(random, row, cells);
+            leave_unwritten(random, row, cells, codes);
         while (chance(random, 150)); /* mostly one cell */
         break;
     }

@@ -200,6 +200,45 @@ static const char *run_misdeed(const struct memory *memory, const struct test_ca
     return stretches_misdeed(given, &run);
 }
 
+/* The first task with operation 6 in a file or in rows of which the sizes are
+   right; 0 if none has it. Byte 10 of a file is the number of its tasks. */
+static uint32_t larger_in(const struct test_case *given)
+{
+    if (given->call == CALL_WRITE)
+        return larger_in_rows(given->input, (uint32_t)(given->input_len / ROW_BYTES));
+    return larger_in_file(given->input, given->input[10]);
+}
+
+/* Whether operation 6 is refused: "in readers for version 2 only, in the writer
+   for both versions" (02, Q-9). */
+static bool larger_retired(const struct test_case *given)
+{
+    return given->call == CALL_WRITE || given->input[4] == 2;
+}
+
+enum larger larger_met(const struct memory *memory, const struct test_case *given)
+{
+    if (memory->returned == 18 && given->call == CALL_WRITE)
+        return given->version == 1 ? WRITER_1_REFUSED : WRITER_2_REFUSED;
+    if (memory->returned == 18)
+        return READER_REFUSED;
+    if (memory->returned == 0 && given->call != CALL_WRITE && larger_in(given) != 0)
+        return FILE_ACCEPTED;
+    return NO_LARGER;
+}
+
+/* What no call does about operation 6, or null. */
+static const char *larger_misdeed(const struct memory *memory, const struct test_case *given)
+{
+    if (memory->returned == 18 && !larger_retired(given))
+        return "answered 18 for a file that is not of version 2";
+    if (memory->returned == 18 && larger_in(given) != answer_at(memory, 1))
+        return "answered 18 elsewhere than at the first task with operation 6";
+    if (memory->returned == 0 && larger_retired(given) && larger_in(given) != 0)
+        return "took operation 6 where it is retired";
+    return NULL;
+}
+
 /* What no write does that is not refused, or null. */
 static const char *write_misdeed(const struct memory *memory, const struct test_case *given)
 {
@@ -254,5 +293,6 @@ const char *misdeed(const struct memory *memory, const struct test_case *given)
         return "refused, and changed lent memory all the same";
     if (memory->returned != 0 && !counts_are_zero(memory, given->call))
         return "refused, and answered a count, a version or a held step all the same";
-    return memory->returned == 0 ? success_misdeed(memory, given) : NULL;
+    const char *wrong = larger_misdeed(memory, given);
+    return wrong == NULL && memory->returned == 0 ? success_misdeed(memory, given) : wrong;
 }

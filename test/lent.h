@@ -41,4 +41,12 @@ sflw_run_answer run_answer(const struct memory *memory);
    not as it was, or an answer that no call has. */
 const char *misdeed(const struct memory *memory, const struct test_case *given);
 
+/* What a call did with operation 6 (02, Q-9): a reader refused it with 18 in a
+   file of version 2; the writer did in version 1, or in version 2; or a file of
+   version 1 that has it was accepted. */
+enum larger { NO_LARGER, READER_REFUSED, WRITER_1_REFUSED, WRITER_2_REFUSED, FILE_ACCEPTED,
+              LARGERS };
+
+enum larger larger_met(const struct memory *memory, const struct test_case *given);
+
 #endif

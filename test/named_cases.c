@@ -1,10 +1,10 @@
-#include "named_cases.h"
+#include "larger_cases.h"
 
 #include <string.h>
 
 /* ---- flows ------------------------------------------------------------- */
 
-static void put_flow(struct test_case *made, const struct sample *flow)
+void put_flow(struct test_case *made, const struct sample *flow)
 {
     made->version = flow->version;
     made->workers = flow->workers;
@@ -29,8 +29,7 @@ static void flow_a(struct test_case *made)
     put_flow(made, &flow);
 }
 
-/* One task of one worker: cell 0, of mode 3, by one operation with cell 1. */
-static void one_operation(struct test_case *made, uint32_t version, uint8_t code)
+void one_operation(struct test_case *made, uint32_t version, uint8_t code)
 {
     struct sample flow = {version, 1, 1, 2, {0, 2, 1, 0, 0, 3, 1, 1}};
     flow.rows[12] = code;
@@ -290,7 +289,7 @@ static void full_blocks(struct test_case *made, uint32_t version, uint32_t block
 {
     struct random random = random_of_case(200, 8);
     struct sample flow;
-    make_full_flow(&random, &flow, 10 * blocks, MOST_WORKERS, MOST_CELLS);
+    make_full_flow(&random, &flow, 10 * blocks, MOST_WORKERS, MOST_CELLS, FIVE_CODES);
     flow.version = version;
     put_flow(made, &flow);
 }
@@ -502,11 +501,6 @@ static void flow_a_of_2(struct test_case *made)
 static void operation_5_of_2(struct test_case *made)
 {
     one_operation(made, 2, 5);
-}
-
-static void operation_6_of_2(struct test_case *made)
-{
-    one_operation(made, 2, 6);
 }
 
 /* One task of one worker: cell 0 becomes itself swapped. */
@@ -773,7 +767,7 @@ static void told_3_beside_16(struct test_case *made)
 #define READS(cell) 3, cell
 #define NONE_OF_7 NONE, NONE, NONE, NONE, NONE, NONE, NONE
 
-const struct named_case named_cases[] = {
+static const struct named_case most_cases[] = {
     {"flow A, total 22", CALL_CHECK, flow_a, "", START_A, {0, 0, 3, 2, 3, 22, 1}, START_A},
     {"flow A, read", CALL_READ, flow_a, "", START_A, {0, 0, 144, 3, 2, 3, 1}, START_A},
     {"flow A, written", CALL_WRITE, flow_a, "", START_A, {0, 0, 512}, START_A},
@@ -975,12 +969,6 @@ const struct named_case named_cases[] = {
      {0, 0, 1, 1, 2, 7, 2}, {0}},
     {"operation 5 of version 2 into mode 2, plain run", CALL_PLAIN, swap_into_mode_2, "",
      {4294967295, 74565}, {0, 0}, {83235, 74565}},
-    {"operation 6 of version 2", CALL_CHECK, operation_6_of_2, "", {0}, {0, 0, 1, 1, 2, 7, 2},
-     {0}},
-    {"operation 6 of version 2, written", CALL_WRITE, operation_6_of_2, "", {0}, {0, 0, 512},
-     {0}},
-    {"operation 6 of version 2, plain run", CALL_PLAIN, operation_6_of_2, "", {3, 74565}, {0, 0},
-     {74565, 74565}},
     {"two fields, total 46", CALL_CHECK, two_fields_of_2, "", {0}, {0, 0, 4, 3, 4, 46, 2}, {0}},
     {"two fields", CALL_PLAIN, two_fields_of_2, "", {0}, {0, 0}, {74565, 1, 83235, 83235}},
     {"two fields, version 1", CALL_PLAIN, two_fields_of_1, "", {0}, {0, 0},
@@ -1053,7 +1041,17 @@ const struct named_case named_cases[] = {
     {"22 beside 16", CALL_WRITE, told_3_beside_16, "", START_A, {22, 0}, START_A},
 };
 
-const uint32_t named_case_count = sizeof named_cases / sizeof named_cases[0];
+enum { MOST_CASES = sizeof most_cases / sizeof most_cases[0] };
+
+uint32_t named_case_count(void)
+{
+    return MOST_CASES + larger_case_count;
+}
+
+const struct named_case *named_case(uint32_t index)
+{
+    return index < MOST_CASES ? &most_cases[index] : &larger_cases[index - MOST_CASES];
+}
 
 void make_named_case(const struct named_case *from, struct test_case *made)
 {

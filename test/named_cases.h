@@ -20,9 +20,15 @@ struct named_case {
     uint32_t cells[NAMED_CELLS]; /* after the call */
 };
 
-extern const struct named_case named_cases[];
-extern const uint32_t named_case_count;
+uint32_t named_case_count(void);
+const struct named_case *named_case(uint32_t index);
 
 void make_named_case(const struct named_case *from, struct test_case *made);
+
+/* The file of a flow, or for the writer its rows, with what is lent for it. */
+void put_flow(struct test_case *made, const struct sample *flow);
+
+/* One task of one worker: cell 0, of mode 3, by one operation with cell 1. */
+void one_operation(struct test_case *made, uint32_t version, uint8_t code);
 
 #endif

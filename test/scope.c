@@ -1,8 +1,9 @@
 /*
  * The named cases, the flows that take longest, flow A written and read in both
- * versions, other versions, and how long a worker is kept waiting, on the
- * reference and, where it is linked, on the library; the sums of the check on
- * the reference. A line for each that goes wrong, then a count.
+ * versions, other versions, every code at every place of a row, rows that were
+ * read and are written back, and how long a worker is kept waiting, on the
+ * reference and, where it is linked, on the library; the sums of the check on the
+ * reference. A line for each that goes wrong, then a count.
  */
 #include "lent.h"
 #include "named_cases.h"
@@ -48,10 +49,10 @@ static bool as_written(const struct named_case *from)
 
 static void try_named_cases(const struct calls *calls)
 {
-    for (uint32_t i = 0; i < named_case_count; i++) {
-        make_named_case(&named_cases[i], &made);
+    for (uint32_t i = 0; i < named_case_count(); i++) {
+        make_named_case(named_case(i), &made);
         call_case(calls, &made, IN_THE_MIDDLE, 0, &memory);
-        expect(as_written(&named_cases[i]) && misdeed(&memory, &made) == NULL, calls->name,
+        expect(as_written(named_case(i)) && misdeed(&memory, &made) == NULL, calls->name,
                made.kind);
     }
 }
@@ -126,10 +127,10 @@ static void try_blocks(const struct calls *calls, uint32_t version)
     struct random random = random_of_case(8, version);
     struct sample flow;
 
-    make_flow(&random, &flow, 10, 2, 3);
+    make_flow(&random, &flow, 10, 2, 3, FIVE_CODES);
     flow.version = version;
     try_bytes(calls, &flow, 0);
-    make_flow(&random, &flow, 30, 2, 3);
+    make_flow(&random, &flow, 30, 2, 3, FIVE_CODES);
     flow.version = version;
     try_bytes(calls, &flow, 1);
     try_bytes(calls, &flow, 2);
@@ -158,6 +159,120 @@ static void try_told(const struct calls *calls)
     expect(right, calls->name, "any number as the writer's version");
 }
 
+/* ---- the codes of operations ------------------------------------------- */
+
+enum { OPERATIONS = 6 };
+
+/* One task of six operations, each on cell 0 by itself; their codes are given. */
+static void make_codes(struct sample *flow, uint32_t version, const uint8_t codes[OPERATIONS])
+{
+    *flow = (struct sample){version, 1, 1, 1, {0, 1, OPERATIONS, 0, 0, 3}};
+    for (uint32_t i = 0; i < OPERATIONS; i++)
+        flow->rows[12 + 6 * i] = codes[i];
+}
+
+/* What 01 and 02 say of them: 10 for a code that is unknown; then 18 for
+   operation 6, by the writer and by a reader of version 2. */
+static uint32_t number_of(const uint8_t codes[OPERATIONS], bool retired)
+{
+    bool larger = false;
+
+    for (uint32_t i = 0; i < OPERATIONS; i++) {
+        if (codes[i] < 1 || codes[i] > 6)
+            return 10;
+        larger |= codes[i] == 6;
+    }
+    return larger && retired ? 18 : 0;
+}
+
+static bool codes_right(const struct calls *calls, uint32_t version,
+                        const uint8_t codes[OPERATIONS])
+{
+    struct sample flow;
+    sflw_check_answer checked;
+    sflw_write_answer written;
+    uint32_t read = number_of(codes, version == 2);
+    uint32_t write = number_of(codes, true);
+
+    make_codes(&flow, version, codes);
+    size_t length = make_file(&flow, made.input);
+    calls->check(made.input, length, &checked);
+    calls->write(flow.rows, ROW_BYTES, version, 1, 1, made.output, BLOCK_BYTES, &written);
+    return checked.number == read && checked.place == (read != 0) && written.number == write &&
+           written.place == (write != 0);
+}
+
+/* Every byte as one of the six codes, with every code in the other places. */
+static void try_codes(const struct calls *calls, uint32_t version)
+{
+    uint8_t codes[OPERATIONS];
+    bool right = true;
+
+    for (uint32_t place = 0; place < OPERATIONS; place++) {
+        for (uint32_t byte = 0; byte < 256; byte++) {
+            for (uint8_t other = 1; other <= 6; other++) {
+                memset(codes, other, OPERATIONS);
+                codes[place] = (uint8_t)byte;
+                right &= codes_right(calls, version, codes);
+            }
+        }
+    }
+    expect(right, calls->name, "every byte as an operation's code");
+}
+
+/* Operation 6 in some of the six places, and in the others a copy. */
+static void try_larger(const struct calls *calls, uint32_t version)
+{
+    uint8_t codes[OPERATIONS];
+    bool right = true;
+
+    for (uint32_t set = 0; set < 1u << OPERATIONS; set++) {
+        for (uint32_t i = 0; i < OPERATIONS; i++)
+            codes[i] = (set >> i & 1) != 0 ? 6 : 2;
+        right &= codes_right(calls, version, codes);
+    }
+    expect(right, calls->name, "operation 6 in any of six places");
+}
+
+/* ---- written back ------------------------------------------------------ */
+
+/* "Writing back what was read gives equal bytes for every accepted file without
+   operation 6" (02, Q-9). With it, the first task that has it is refused. */
+static bool written_back(const struct calls *calls, const struct sample *flow)
+{
+    static uint8_t rows[MOST_TASKS * ROW_BYTES];
+    size_t length = make_file(flow, made.input);
+    uint32_t larger = larger_in_rows(flow->rows, flow->tasks);
+    sflw_read_answer read;
+    sflw_write_answer written;
+
+    memset(made.output, 0xee, MOST_FILE);
+    calls->read(made.input, length, rows, sizeof rows, &read);
+    calls->write(rows, read.bytes, read.version, read.workers, read.cells, made.output, MOST_FILE,
+                 &written);
+    if (larger != 0)
+        return read.number == 0 && written.number == 18 && written.place == larger &&
+               made.output[0] == 0xee;
+    return read.number == 0 && written.bytes == length &&
+           memcmp(made.output, made.input, length) == 0;
+}
+
+/* Half of the flows of version 1 may have operation 6. */
+static void try_written_back(const struct calls *calls, uint32_t version)
+{
+    bool right = true;
+
+    for (uint32_t i = 0; i < 400; i++) {
+        struct random random = random_of_case(9, i);
+        enum codes codes = i < 200 ? FIVE_CODES : codes_of(version);
+        struct sample flow;
+        make_flow(&random, &flow, 1 + i % 30, 1 + i % MOST_WORKERS, 1 + i % MOST_CELLS, codes);
+        flow.version = version;
+        right &= written_back(calls, &flow);
+    }
+    expect(right, calls->name, "rows that were read, written back");
+}
+
 /* ---- sums -------------------------------------------------------------- */
 
 /* P9, and the sums over "abcdef" and "abcdefgh" that are published with the
@@ -180,6 +295,9 @@ static void try_all(const struct calls *calls)
     for (uint32_t version = 1; version <= MOST_VERSION; version++) {
         try_flow_a(calls, version);
         try_blocks(calls, version);
+        try_codes(calls, version);
+        try_larger(calls, version);
+        try_written_back(calls, version);
     }
     try_told(calls);
     wrong_waits += try_waiting(calls, &made, &memory);

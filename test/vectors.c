@@ -50,6 +50,7 @@ static struct test_case current;
 static uint32_t met[MOST_NUMBER + 1];
 static uint32_t versions[MOST_VERSION + 1]; /* of accepted files, and of written ones */
 static uint32_t latest[REASONS]; /* of the workers of accepted runs */
+static uint32_t larger[LARGERS]; /* what was done with operation 6 */
 static uint64_t written;
 
 /* ---- the stream -------------------------------------------------------- */
@@ -118,10 +119,11 @@ static void put_head(size_t stored)
         put_number(i < answer_words(current.call) ? answer_at(&memory, i) : 0);
 }
 
-/* Which numbers, versions and reasons the case meets. */
+/* Which numbers, versions and reasons the case meets, and what of operation 6. */
 static void count_case(void)
 {
     met[memory.returned]++;
+    larger[larger_met(&memory, &current)]++;
     if (memory.returned != 0)
         return;
     versions[current.call == CALL_WRITE ? current.version : current.input[4]]++;
@@ -191,7 +193,7 @@ static void put_largest(uint32_t version)
     struct random random = random_of_case(9450, 1);
     struct sample flow;
 
-    make_flow(&random, &flow, MOST_TASKS, MOST_WORKERS, MOST_CELLS);
+    make_flow(&random, &flow, MOST_TASKS, MOST_WORKERS, MOST_CELLS, codes_of(version));
     flow.version = version;
     put_plain_largest(file, make_file(&flow, file));
     put_run_largest(3000);
@@ -268,6 +270,9 @@ static void report(uint64_t cases)
     fprintf(stderr, "; versions:");
     for (uint32_t version = 1; version <= MOST_VERSION; version++)
         fprintf(stderr, " %" PRIu32 ":%" PRIu32, version, versions[version]);
+    fprintf(stderr, "; 18 by readers:%" PRIu32 " writer, version 1:%" PRIu32 " version 2:%" PRIu32
+            "; operation 6 accepted:%" PRIu32, larger[READER_REFUSED], larger[WRITER_1_REFUSED],
+            larger[WRITER_2_REFUSED], larger[FILE_ACCEPTED]);
     fprintf(stderr, "; latest reasons:");
     for (uint32_t reason = 0; reason < REASONS; reason++)
         fprintf(stderr, " %" PRIu32 ":%" PRIu32, reason, latest[reason]);
@@ -276,7 +281,7 @@ static void report(uint64_t cases)
 
 int main(int count, char **arguments)
 {
-    uint32_t others = named_case_count + LARGEST + TOO_LONG + LONGEST + STRETCHES;
+    uint32_t others = named_case_count() + LARGEST + TOO_LONG + LONGEST + STRETCHES;
     struct words words = words_of("vectors", count, arguments);
     uint64_t cases = next_number(&words, "CASES", 0, UINT32_MAX - others, 2900);
     uint64_t seed = next_number(&words, "SEED", 0, UINT64_MAX, 20220127);
@@ -285,8 +290,8 @@ int main(int count, char **arguments)
 
     open_memory(&memory);
     put_number((uint32_t)all);
-    for (uint32_t i = 0; i < named_case_count; i++) {
-        make_named_case(&named_cases[i], &current);
+    for (uint32_t i = 0; i < named_case_count(); i++) {
+        make_named_case(named_case(i), &current);
         put_case();
     }
     for (uint32_t version = 1; version <= MOST_VERSION; version++)

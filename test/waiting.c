@@ -102,10 +102,12 @@ static void try_stretch(size_t prefix)
 static void make_waiting_flow(void)
 {
     struct sample flow;
+    uint32_t version = 1 + tried.flow % 2;
 
     workers = between(&random, 1, MOST_WORKERS);
-    make_flow(&random, &flow, between(&random, 1, 10), workers, between(&random, 1, 3));
-    flow.version = 1 + tried.flow % 2;
+    make_flow(&random, &flow, between(&random, 1, 10), workers, between(&random, 1, 3),
+              codes_of(version));
+    flow.version = version;
     total = total_of(&flow);
     made->call = CALL_RUN;
     made->kind = "kept waiting";
