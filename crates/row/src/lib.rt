@@ -219,10 +219,10 @@ pub fn refusal(row: &[u8], retired: bool, workers: u32, cells: u32) -> u32
     if !operations_sound(row, cells) {
         return 10;
     }
+    let left = modes_left(row, modes);
     if !retirement_kept(row, retired) {
         return 18;
     }
-    let left = modes_left(row, modes);
     if left == 0 {
         return 11;
     }

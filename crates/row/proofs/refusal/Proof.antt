@@ -34,10 +34,10 @@ abbrev past-10 : tie.Else5 → tie.Start
 past-10 c = past-9 (c .before .before)
 
 abbrev past-18 : tie.Else6 → tie.Start
-past-18 c = past-10 (c .before .before)
+past-18 c = past-10 (c .before .before .before)
 
 abbrev past-11 : tie.Else7 → tie.Start
-past-11 c = past-18 (c .before .before)
+past-11 c = past-18 (c .before)
 
 -- and the place of the rule before
 abbrev back-to-6 : tie.Else2 → tie.Else1
@@ -53,10 +53,10 @@ abbrev back-to-9 : tie.Else5 → tie.Else4
 back-to-9 c = c .before .before
 
 abbrev back-to-10 : tie.Else6 → tie.Else5
-back-to-10 c = c .before .before
+back-to-10 c = c .before .before .before
 
 abbrev back-to-18 : tie.Else7 → tie.Else6
-back-to-18 c = c .before .before
+back-to-18 c = c .before
 
 -- ---- what each rule tells once it is kept
 
@@ -82,8 +82,8 @@ kept-18 c = sym (c .before .retirement-kept .ensures) ∙ not-false _ (c .if6 .l
 
 -- and the table is then the one that the operations leave
 kept-11 : (c : tie.Else7)
-    → (modesSound (taskOf (past-11 c .args .row .now)) ≡ true) × (c .before .modes-left .result ≡ tableLeft (taskOf (past-11 c .args .row .now)))
-kept-11 c = told-kept _ _ (c .before .modes-left .ensures) (c .if7 .left)
+    → (modesSound (taskOf (past-11 c .args .row .now)) ≡ true) × (c .before .before .before .modes-left .result ≡ tableLeft (taskOf (past-11 c .args .row .now)))
+kept-11 c = told-kept _ _ (c .before .before .before .modes-left .ensures) (c .if7 .left)
 
 -- ---- the rules in their order
 
@@ -135,37 +135,38 @@ returns-5 c =
 within : (c : tie.Else5) → operationsSound mostCells (past-10 c .args .row .now) ≡ true
 within c = operations-more _ mostCells _ (past-10 c .pre .1) (kept-10 c)
 
+modes-left-requires : tie.Need-modes-left-requires
+modes-left-requires c κs =
+    let nine = back-to-9 c in
+    let eight = back-to-8 nine in
+    (past-10 c .pre .0, (kept-7 (back-to-7 eight), (named eight, (kept-9 nine .0, (within c, kept-9 nine .1)))))
+
 retirement-kept-requires : tie.Need-retirement-kept-requires
-retirement-kept-requires c κs = (past-10 c .pre .0, (kept-7 (back-to-7 (back-to-8 (back-to-9 c))), within c))
+retirement-kept-requires c κs =
+    let ten = c .before in
+    (past-10 ten .pre .0, (kept-7 (back-to-7 (back-to-8 (back-to-9 ten))), within ten))
 
 returns-6 : tie.Need-returns-6
 unfolding rowRefusal firstBroken
 returns-6 c =
-    let ten = c .before .before in
+    let ten = c .before .before .before in
     let nine = back-to-9 ten in
     let eight = back-to-8 nine in
     let seven = back-to-7 eight in
     rw
     (kept-6 (back-to-6 seven), kept-7 seven, kept-8 eight, kept-9 nine .0, kept-10 ten, sym (c .before .retirement-kept .ensures) ∙ not-true _ (c .if6 .taken))
 
-modes-left-requires : tie.Need-modes-left-requires
-modes-left-requires c κs =
-    let ten = back-to-10 c in
-    let nine = back-to-9 ten in
-    let eight = back-to-8 nine in
-    (past-18 c .pre .0, (kept-7 (back-to-7 eight), (named eight, (kept-9 nine .0, (within ten, kept-9 nine .1)))))
-
 returns-7 : tie.Need-returns-7
 unfolding rowRefusal firstBroken
 returns-7 c =
-    let eighteen = c .before .before in
+    let eighteen = c .before in
     let ten = back-to-10 eighteen in
     let nine = back-to-9 ten in
     let eight = back-to-8 nine in
     let seven = back-to-7 eight in
     let row = past-18 eighteen .args .row .now in
     let some = after-some (tableOf (taskOf row .accesses)) (taskOf row .operations) (table-named row (kept-7 seven) (named eight)) in
-    let broken = told-broken (modesSound (taskOf row)) (tableLeft (taskOf row)) (c .before .modes-left .ensures) some (c .if7 .taken) in
+    let broken = told-broken (modesSound (taskOf row)) (tableLeft (taskOf row)) (eighteen .before .before .modes-left .ensures) some (c .if7 .taken) in
     rw (kept-6 (back-to-6 seven), kept-7 seven, kept-8 eight, kept-9 nine .0, kept-10 ten, kept-18 eighteen, broken)
 
 -- where the function starts, as seen once rule 17 is asked
@@ -198,5 +199,5 @@ refusal-spec =
     tie.close
     (tie.spec
     (λ c κs. search needs) returns (λ c κs. search needs) returns-2 accesses-sound-requires returns-3
-    modes-of-requires returns-4 operations-sound-requires returns-5 retirement-kept-requires returns-6 modes-left-requires
+    modes-of-requires returns-4 operations-sound-requires returns-5 modes-left-requires retirement-kept-requires returns-6
     returns-7 (λ c κs. search needs) returns-8 returns-9)
