@@ -3,20 +3,22 @@
  * and the stepped run.
  *
  * Every call fills its answer and returns the answer's number: 0 for success,
- * 1 to 17 or 22 for a refusal. The place says where the fault is: a block (from
+ * 1 to 18 or 22 for a refusal. The place says where the fault is: a block (from
  * 0), a task (from 1) or the index of a schedule byte (from 0), and is 0 where
  * none is named. With a refusal every count in the answer is 0, the version is
  * 0, no worker was held, and all other lent memory is as it was.
  *
  * A flow is of version 1 or 2, and every block of its file says which.
  * Operation 5 gives a the two low bytes of b, exchanged; the high half of a
- * becomes 0 in version 1, and that of b in version 2. In all else the two are
- * the same.
+ * becomes 0 in version 1, and that of b in version 2. Operation 6, the larger
+ * of a and b, is retired: a file of version 1 may have it, one of version 2 may
+ * not, and the writer takes it in neither. In all else the two versions are the
+ * same.
  *
- * A flow file has the refusals 1; then 2 to 5, block by block; then 6 to 11 and
- * 17, task by task. 3 covers a version that is neither 1 nor 2, or is not
- * block 0's. 17 is a cell of mode 2, write only, that no operation of its task
- * writes.
+ * A flow file has the refusals 1; then 2 to 5, block by block; then, task by
+ * task, 6 to 10, 18, 11 and 17. 3 covers a version that is neither 1 nor 2, or
+ * is not block 0's. 17 is a cell of mode 2, write only, that no operation of
+ * its task writes. 18 is an operation 6 in a file of version 2.
  *
  * Lengths are in bytes, but for cells_len, which counts cells of 32 bits. A
  * pointer must not be null, even with length 0. Nothing that is lent for
@@ -114,8 +116,10 @@ uint32_t sflw_read(const uint8_t *file, size_t file_len,
 /*
  * Writes a flow file from its rows, its version, its workers and its cells, of
  * which any value may be given. Refusals: 15, then 22 if the version is neither
- * 1 nor 2, then 4, then 6 to 11 and 17 task by task, then 16 if the blocks do
- * not fit. Bytes of out after the last block stay as they were.
+ * 1 nor 2, then 4, then 6 to 10, 18, 11 and 17 task by task, then 16 if the
+ * blocks do not fit. 18 is an operation 6, in either version: rows that were
+ * read are written back as the same file, unless it was one of version 1 with
+ * an operation 6. Bytes of out after the last block stay as they were.
  */
 uint32_t sflw_write(const uint8_t *rows, size_t rows_len,
                     uint32_t version, uint32_t workers, uint32_t cells,

@@ -158,8 +158,7 @@ writeMade operations access = not (eqb (access .mode) 2) || written operations (
 abbrev pub writesMade : Task → Bool
 writesMade task = all (writeMade (task .operations)) (task .accesses)
 
--- the first of 6 to 11 that a row breaks, or 18, "after 10 and before 11 on the same task", or 17, "directly after 11 on the same task"; 0 where it
--- breaks none
+-- the first of 6 to 11 that a row breaks, with 18 "after 10 and before 11 on the same task" and 17 "directly after 11"; 0 where it breaks none
 unfoldable pub rowRefusal : Bool → ℕ → ℕ → List ℕ → ℕ
 rowRefusal retired workers cells row =
     firstBroken

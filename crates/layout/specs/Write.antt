@@ -40,8 +40,8 @@ rowOfTask rows task = part (48 * (task - 1)) (48 * (task - 1) + 48) rows
 abbrev pub rowsSound : ℕ → Bool
 rowsSound bytes = leb 1 bytes && leb bytes mostRowBytes && eqb (bytes % 48) 0
 
--- "The writer, given rows, workers and cells, has 15, 4, 6 to 11, 16. In its 4 only workers and cells can be at fault"; 17 "directly after 11";
--- and it "is told which [version] to write" and "gives 22 for another version, after 15 and before 4"
+-- "The writer, given rows, workers and cells, has 15, 4, 6 to 11, 16. In its 4 only workers and cells can be at fault"; with 17 and 18 in their
+-- places among 6 to 11; and it "is told which [version] to write" and "gives 22 for another version, after 15 and before 4"
 unfoldable pub rowsAnswer : List ℕ → ℕ → ℕ → ℕ → Answer
 rowsAnswer rows version workers cells =
     orElse (refusal (unless (rowsSound (length rows)) 15) 0)

@@ -197,7 +197,8 @@ fn modes_left(row: &[u8], table: u64) -> u64
     modes
 }
 
-// The first of 6 to 11 that the row breaks, or 18 or 17 in their places; 0 where it breaks none. The caller says whether operation 6 is retired.
+// The first of 6 to 11 that the row breaks, or 18 after 10, or 17 after 11; 0 where it breaks none. The caller says whether operation 6 is
+// retired. The operations go through the table before 18 is answered, since the compiler then keeps that loop here.
 pub fn refusal(row: &[u8], retired: bool, workers: u32, cells: u32) -> u32
     requires { ⌜ length (now row) ≡ 48 ⌝ }
     requires { ⌜ cells ≤ mostCells ⌝ }

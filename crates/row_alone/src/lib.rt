@@ -6,8 +6,8 @@ ghost use lib.Dec.{leb};
 ghost use Rattle.layout.specs.Flow.{mostCells};
 ghost use Rattle.layout.specs.Row.{retiredInReader, rowRefusal};
 
-// The first of 6 to 11 that a row of a file of this version breaks, or 18 or 17 in their places, 0 where it breaks none; 4 where there are more
-// cells than a flow can have.
+// The first of 6 to 11 that a row of a file of this version breaks, or 18 after 10, or 17 after 11, 0 where it breaks none; 4 where there are
+// more cells than a flow can have.
 #[no_mangle]
 pub extern "C" fn row_alone(row: &[u8; 48], version: u32, workers: u32, cells: u32) -> u32
     ensures { λ r. ⌜ r ≡ cond (leb cells mostCells) (rowRefusal (retiredInReader version) workers cells (now (row .entry))) 4 ⌝ }
