@@ -8,11 +8,11 @@ use Prim.Native.Nat.{ℕ, _+_, _-_, _<_}
 use native.Mathlib.Nat.{add-comm}
 use native.Mathlib.Omega.{arith}
 use borrow.Author.Tests.{not-true, not-false}
-use lib.ListN.{length, getD}
+use lib.ListN.{getD}
 use lib.Dec.{lit<}
 use Rattle.layout.specs.Flow.{Task}
 use Rattle.layout.specs.Refusal.{Answer, success, refusal, unless, firstAt}
-use Rattle.layout.specs.Row.{taskOf, usesLarger, retirementKept, retiredInReader, retiredInWriter, rowRefusal}
+use Rattle.layout.specs.Row.{taskOf, usesLarger, retiredInReader, retiredInWriter, rowRefusal}
 use Rattle.layout.specs.File.{rowAt, versionOf, tasksOf, workersOf, cellsOf, flowOf, rowsOf}
 use Rattle.layout.specs.Write.{rowCount, rowOfTask, rowsAnswer, flowOfRows}
 use Rattle.layout.proofs.Lists.{and-false, each-length, each-at, all-pass, all-keeps}
@@ -100,12 +100,11 @@ module _ (file : List ℕ) (k : FileKept file) where
   first-one i broken =
       let back : 1 + i - 1 ≡ i = omega arith in
       record {
-        some = omega arith;
+        from-1 = omega arith;
         there = rw (each-length (tasksOf file) (λ j. taskOf (rowAt file (j + 1)))) (omega (arith, broken .there));
         has-it = λ none. rw (back, task-at none i (broken .there)) (not-false _ (broken .breaks));
         none-before =
-            λ none earlier from-1 before.
-            let again : 1 + (earlier - 1) ≡ earlier = omega arith in
+            λ none earlier low before.
             rw (task-at none (earlier - 1) (omega (arith, broken .there)))
             (not-true _ (broken .kept-before (earlier - 1) (omega arith)));
       }

@@ -13,7 +13,7 @@ withoutLarger flow = all (λ task. not (usesLarger task)) (flow .tasks)
 
 -- the first task that has it, counted from 1; whatever stands for a task past the end
 pub record FirstLarger (flow : Flow) (task : ℕ) : Type 0 where
-  pub some : 1 ≤ task
+  pub from-1 : 1 ≤ task
   pub there : task ≤ length (flow .tasks)
   pub has-it : (none : Task) → usesLarger (getD (flow .tasks) (task - 1) none) ≡ true
   pub none-before : (none : Task) (earlier : ℕ) → 1 ≤ earlier → earlier < task → usesLarger (getD (flow .tasks) (earlier - 1) none) ≡ false

@@ -2,7 +2,7 @@
 -- file of the rows, or the rows of the file. By the theorems of `roundtrip` the other call's rules are then kept, too, and of the file of the
 -- rows it gives the rows, of the rows of the file the file. Only the room is left to ask; but where a task has operation 6, the writer refuses its rows.
 use mathlib.Core.Path.{_≡_, sym, ap, _∙_}
-use mathlib.Core.Bool.{true, false}
+use mathlib.Core.Bool.{true}
 use mathlib.Core.List.{List}
 use Prim.Native.Nat.{ℕ, _*_}
 use native.Mathlib.Omega.{arith}

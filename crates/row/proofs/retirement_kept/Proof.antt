@@ -1,6 +1,6 @@
 -- `row::retirement_kept` meets its contract: where nothing is retired the rule is kept, and else the six codes tell.
-use mathlib.Core.Path.{_≡_, ap}
-use mathlib.Core.Bool.{Bool, true, not}
+use mathlib.Core.Path.{ap}
+use mathlib.Core.Bool.{not}
 use borrow.Author.Needs.{needs}
 use borrow.Author.Tests.{not-true, not-false}
 use Rattle.layout.specs.Flow.{mostCells}
