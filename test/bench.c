@@ -523,7 +523,8 @@ static void measure_rows(uint8_t *stack, size_t deepest[2])
 {
     for (size_t at = 0; at + ROW_BYTES <= current.input_len; at += ROW_BYTES) {
         current_row = current.input + at;
-        for (current.version = 1; current.version <= MOST_VERSION; current.version++) {
+        for (uint32_t version = 1; version <= MOST_VERSION; version++) {
+            current.version = version;
             hold_rows_together();
             measure_current(stack, deepest);
         }

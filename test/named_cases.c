@@ -767,7 +767,7 @@ static void told_3_beside_16(struct test_case *made)
 #define READS(cell) 3, cell
 #define NONE_OF_7 NONE, NONE, NONE, NONE, NONE, NONE, NONE
 
-static const struct named_case most_cases[] = {
+static const struct named_case other_cases[] = {
     {"flow A, total 22", CALL_CHECK, flow_a, "", START_A, {0, 0, 3, 2, 3, 22, 1}, START_A},
     {"flow A, read", CALL_READ, flow_a, "", START_A, {0, 0, 144, 3, 2, 3, 1}, START_A},
     {"flow A, written", CALL_WRITE, flow_a, "", START_A, {0, 0, 512}, START_A},
@@ -1041,16 +1041,16 @@ static const struct named_case most_cases[] = {
     {"22 beside 16", CALL_WRITE, told_3_beside_16, "", START_A, {22, 0}, START_A},
 };
 
-enum { MOST_CASES = sizeof most_cases / sizeof most_cases[0] };
+enum { OTHER_CASES = sizeof other_cases / sizeof other_cases[0] };
 
 uint32_t named_case_count(void)
 {
-    return MOST_CASES + larger_case_count;
+    return OTHER_CASES + larger_case_count;
 }
 
 const struct named_case *named_case(uint32_t index)
 {
-    return index < MOST_CASES ? &most_cases[index] : &larger_cases[index - MOST_CASES];
+    return index < OTHER_CASES ? &other_cases[index] : &larger_cases[index - OTHER_CASES];
 }
 
 void make_named_case(const struct named_case *from, struct test_case *made)

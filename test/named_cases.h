@@ -1,7 +1,7 @@
 /*
  * Cases that the scope document (01) names, "A flow on the bench", some at its
  * limits, and some for the change requests after it (02), with the answers that
- * they ask for.
+ * they ask for. Those of operation 6 stand in larger_cases.c.
  */
 #ifndef NAMED_CASES_H
 #define NAMED_CASES_H

@@ -61,10 +61,10 @@ fn rows_met(file: &[u8], version: u32, sizes: Sizes) -> Answer
     requires { ⌜ (length (now file) ≡ 512 * blocksFor (sizes .tasks)) × (sizes .tasks ≤ mostTasks) × (sizes .cells ≤ mostCells) ⌝ }
     ensures { λ r. ⌜ r ≡ answerOf (firstAt (λ task. rowRefusal (retiredInReader version) (sizes .workers) (sizes .cells) (rowAt (now (file .entry)) task)) 1 (sizes .tasks)) ⌝ }
 {
+    let retired = version == Flow::VERSION_2;
     let mut task: u32 = 1;
     while task <= sizes.tasks {
         let from = row::start(task);
-        let retired = version == Flow::VERSION_2;
         let number = row::refusal(&file[from..from + 48], retired, sizes.workers, sizes.cells);
         if number != 0 {
             return Answer {

@@ -58,7 +58,8 @@ blockNumber file index =
 abbrev pub rowNumber : List ℕ → ℕ → ℕ
 rowNumber file task = rowRefusal (retiredInReader (versionOf file)) (workersOf file) (cellsOf file) (rowAt file task)
 
--- "1; then 2 to 5 on block 0, then on block 1, and so on; then 6 to 11 on task 1, then task 2, and so on"; 17 comes "before 6 on the next"
+-- "1; then 2 to 5 on block 0, then on block 1, and so on; then 6 to 11 on task 1, then task 2, and so on"; 17 comes "before 6 on the next", and 18
+-- "before 11 on the same task"
 unfoldable pub fileAnswer : List ℕ → Answer
 fileAnswer file =
     orElse (refusal (unless (lengthSound (length file)) 1) 0)

@@ -139,10 +139,11 @@ usesLarger task = any (λ o. eqb (o .code) 6) (task .operations)
 abbrev pub retirementKept : Bool → Task → Bool
 retirementKept retired task = not (retired && usesLarger task)
 
--- it is retired "in readers for version 2 only, in the writer for both versions"
+-- "in readers for version 2 only"
 abbrev pub retiredInReader : ℕ → Bool
 retiredInReader version = eqb version 2
 
+-- "in the writer for both versions"
 abbrev pub retiredInWriter : ℕ → Bool
 retiredInWriter version = true
 

@@ -24,16 +24,16 @@ use Rattle.roundtrip.proofs.Read.{count-back, row-taken, rows-kept}
 
 -- ---- rows that the writer takes
 
-unused-kept : (retired used : Bool) → not used ≡ true → not (retired && used) ≡ true
-unused-kept retired used none = rw (not-true used none, and-false retired)
+without-kept : (retired used : Bool) → not used ≡ true → not (retired && used) ≡ true
+without-kept retired used none = rw (not-true used none, and-false retired)
 
 module _ (rows : List ℕ) (version workers cells : ℕ) (k : RowsKept (retiredInWriter version) rows version workers cells) where
-  row-unused : (i : ℕ) → i < rowCount rows → not (usesLarger (taskOf (rowOfTask rows (i + 1)))) ≡ true
-  row-unused i l = row-keeps (retiredInWriter version) workers cells (rowOfTask rows (i + 1)) (k .each-row i l) .retirement
+  row-without : (i : ℕ) → i < rowCount rows → not (usesLarger (taskOf (rowOfTask rows (i + 1)))) ≡ true
+  row-without i l = row-keeps (retiredInWriter version) workers cells (rowOfTask rows (i + 1)) (k .each-row i l) .retirement
 
-  pub none-written : withoutLarger (flowOfRows rows version workers cells) ≡ true
+  pub no-larger : withoutLarger (flowOfRows rows version workers cells) ≡ true
   unfolding flowOfRows
-  none-written = all-pass (λ task. not (usesLarger task)) (rowCount rows) (λ i. taskOf (rowOfTask rows (i + 1))) row-unused
+  no-larger = all-pass (λ task. not (usesLarger task)) (rowCount rows) (λ i. taskOf (rowOfTask rows (i + 1))) row-without
 
   pub readers-keep : RowsKept (retiredInReader version) rows version workers cells
   readers-keep =
@@ -46,28 +46,28 @@ module _ (rows : List ℕ) (version workers cells : ℕ) (k : RowsKept (retiredI
         each-row =
             λ i l.
             only-18 (retiredInWriter version) workers cells (rowOfTask rows (i + 1)) (k .each-row i l) (retiredInReader version)
-            ∙ ap (λ (b : Bool). unless b 18) (unused-kept (retiredInReader version) _ (row-unused i l));
+            ∙ ap (λ (b : Bool). unless b 18) (without-kept (retiredInReader version) _ (row-without i l));
       }
 
 -- ---- the rows of an accepted file
 
 module _ (file : List ℕ) (k : FileKept file) where
   -- the task whose number is given has no operation 6
-  abbrev unused : ℕ → Bool
-  unused task = not (usesLarger (taskOf (rowAt file task)))
+  abbrev without : ℕ → Bool
+  without task = not (usesLarger (taskOf (rowAt file task)))
 
   -- the writer's answer
   abbrev writes : Answer
   writes = rowsAnswer (rowsOf file) (versionOf file) (workersOf file) (cellsOf file)
 
   row-asked : (i : ℕ) → i < tasksOf file
-      → rowRefusal (retiredInWriter (versionOf file)) (workersOf file) (cellsOf file) (rowOfTask (rowsOf file) (1 + i)) ≡ unless (unused (1 + i)) 18
+      → rowRefusal (retiredInWriter (versionOf file)) (workersOf file) (cellsOf file) (rowOfTask (rowsOf file) (1 + i)) ≡ unless (without (1 + i)) 18
   row-asked i l =
       rw (add-comm 1 i, row-taken file k i l)
       (only-18 (retiredInReader (versionOf file)) (workersOf file) (cellsOf file) (rowAt file (i + 1)) (k .rows i l) (retiredInWriter (versionOf file)))
 
   -- the writer meets rule 18 alone
-  writer-meets : writes ≡ firstAt (λ task. unless (unused task) 18) 1 (tasksOf file)
+  writer-meets : writes ≡ firstAt (λ task. unless (without task) 18) 1 (tasksOf file)
   writer-meets =
       rows-asked (rowsOf file) (versionOf file) (workersOf file) (cellsOf file) (rows-kept file k)
       ∙ ap
@@ -75,19 +75,19 @@ module _ (file : List ℕ) (k : FileKept file) where
       (count-back file k)
       ∙ same-at _ _ 1 (tasksOf file) row-asked
 
-  flow-unused : (i : ℕ) → i < tasksOf file → withoutLarger (flowOf file) ≡ true → unused (i + 1) ≡ true
+  flow-without : (i : ℕ) → i < tasksOf file → withoutLarger (flowOf file) ≡ true → without (i + 1) ≡ true
   unfolding flowOf
-  flow-unused i l = all-keeps (λ task. not (usesLarger task)) (tasksOf file) (λ j. taskOf (rowAt file (j + 1))) i l
+  flow-without i l = all-keeps (λ task. not (usesLarger task)) (tasksOf file) (λ j. taskOf (rowAt file (j + 1))) i l
 
   pub rows-accepted : withoutLarger (flowOf file) ≡ true → writes ≡ success
   rows-accepted none =
       writer-meets
-      ∙ success-at (λ task. unless (unused task) 18) 1 (tasksOf file)
-      (λ i l. rw (add-comm 1 i, flow-unused i l none))
+      ∙ success-at (λ task. unless (without task) 18) 1 (tasksOf file)
+      (λ i l. rw (add-comm 1 i, flow-without i l none))
 
-  all-unused : ((i : ℕ) → i < tasksOf file → unused (1 + i) ≡ true) → withoutLarger (flowOf file) ≡ true
+  all-without : ((i : ℕ) → i < tasksOf file → without (1 + i) ≡ true) → withoutLarger (flowOf file) ≡ true
   unfolding flowOf
-  all-unused h =
+  all-without h =
       all-pass (λ task. not (usesLarger task)) (tasksOf file) (λ j. taskOf (rowAt file (j + 1)))
       (λ i l. rw (add-comm 1 i) at (h i l))
 
@@ -95,7 +95,7 @@ module _ (file : List ℕ) (k : FileKept file) where
   unfolding flowOf
   task-at none i l = rw (add-comm 1 i) (each-at (tasksOf file) (λ j. taskOf (rowAt file (j + 1))) i none l)
 
-  first-one : (i : ℕ) → FirstBreak unused 18 1 (tasksOf file) i → FirstLarger (flowOf file) (1 + i)
+  first-one : (i : ℕ) → FirstBreak without 18 1 (tasksOf file) i → FirstLarger (flowOf file) (1 + i)
   unfolding flowOf
   first-one i broken =
       let back : 1 + i - 1 ≡ i = omega arith in
@@ -111,5 +111,5 @@ module _ (file : List ℕ) (k : FileKept file) where
 
   pub first-refused : withoutLarger (flowOf file) ≡ false → (task : ℕ) × FirstLarger (flowOf file) task × (writes ≡ refusal 18 task)
   first-refused some =
-      ⊎-elim (λ none. absurd (true≢false (sym (all-unused none) ∙ some)))
-      (λ broken. (1 + broken .0, first-one (broken .0) (broken .1), writer-meets ∙ broken .1 .given)) (break-at unused 18 (lit< tt) 1 (tasksOf file))
+      ⊎-elim (λ none. absurd (true≢false (sym (all-without none) ∙ some)))
+      (λ broken. (1 + broken .0, first-one (broken .0) (broken .1), writer-meets ∙ broken .1 .given)) (break-at without 18 (lit< tt) 1 (tasksOf file))

@@ -31,7 +31,8 @@ pub record ReadBack (file rows : List ℕ) (version workers cells : ℕ) : Type 
   pub same-workers : workersOf file ≡ workers
   pub same-cells : cellsOf file ≡ cells
   pub same-flow : check file ≡ accepted (flowOfRows rows version workers cells)
-  pub none-written : withoutLarger (flowOf file) ≡ true
+  -- "the writer no longer writes it in either version"
+  pub no-larger : withoutLarger (flowOf file) ≡ true
 
 pub reader-after-writer : (rows : List ℕ) (version workers cells : ℕ) → rowsAnswer rows version workers cells ≡ success
     → ReadBack (fileOf version (rowCount rows) workers cells rows) rows version workers cells
@@ -46,7 +47,7 @@ reader-after-writer rows version workers cells h =
       same-workers = Written.workers-back rows version workers cells k;
       same-cells = Written.cells-back rows version workers cells k;
       same-flow = Written.accepts rows version workers cells k;
-      none-written = rw (Written.flow-back rows version workers cells k) (Retired.none-written rows version workers cells taken);
+      no-larger = rw (Written.flow-back rows version workers cells k) (Retired.no-larger rows version workers cells taken);
     }
 
 -- ---- 2. The writer after the reader: the file of an accepted file's rows is the file itself. The writer accepts them, and so makes it, where no
@@ -79,7 +80,7 @@ accepted-exactly file bytes = (
       (rowsOf file, versionOf file, workersOf file, cellsOf file, Read.rows-bytes file bytes, back .0, sym (back .1))),
   (λ made.
       let back = reader-after-writer (made .0) (made .1) (made .2) (made .3) (made .5) in
-      rw (made .6) (back .succeeds, back .none-written)),
+      rw (made .6) (back .succeeds, back .no-larger)),
 )
 
 -- ---- 4. A file is accepted as a flow whose bytes are the file, and whose rows are the file's

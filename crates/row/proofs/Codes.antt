@@ -15,13 +15,14 @@ use Rattle.layout.proofs.Lists.{and-right}
 use Rattle.layout.proofs.Zeros.{zero-at}
 use Rattle.layout.proofs.Modes.{counts-kept}
 
--- members past a count that don't pass a test are none that do
+-- no member passes a test
 any-none : {A : Type 0} (test : A → Bool) (n : ℕ) (f : ℕ → A) → ((i : ℕ) → i < n → test (f i) ≡ false) → any test (each n f) ≡ false
 unfolding each any
 any-none test zero f none = refl
 any-none test (suc n) f none =
     ap₂ _||_ (none 0 (omega arith)) (any-none test n (λ i. f (suc i)) (λ i l. none (suc i) (omega arith)))
 
+-- members past a count that don't pass a test can be left out
 any-fewer : {A : Type 0} (test : A → Bool) (n more : ℕ) (f : ℕ → A) → n ≤ more → ((i : ℕ) → n ≤ i → i < more → test (f i) ≡ false)
     → any test (each more f) ≡ any test (each n f)
 unfolding each any

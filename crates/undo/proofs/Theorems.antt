@@ -72,12 +72,12 @@ pub writer-after-reader : (file lent : List ℕ) (r : ReadAnswer) (lent-after : 
 writer-after-reader file lent r lent-after bytes promised none =
     record {
       comes-back =
-          λ unused out w out-after room write.
+          λ without out w out-after room write.
           let again = written-again promised none write in
-          rw same-file at (write-gives again (fits (write-fills again) (kept unused) (rw (needed unused) at room)));
+          rw same-file at (write-gives again (fits (write-fills again) (kept without) (rw (needed without) at room)));
       too-short =
-          λ unused out w out-after room write.
-          refused-16 (write-fills (written-again promised none write)) (kept unused) (rw (needed unused) at room);
+          λ without out w out-after room write.
+          refused-16 (write-fills (written-again promised none write)) (kept without) (rw (needed without) at room);
       refused =
           λ used.
           let met = ByRules.writer-refuses file (accepted promised none) used in (
@@ -93,10 +93,10 @@ writer-after-reader file lent r lent-after bytes promised none =
     same-file = ByRules.rows-make-file file bytes (accepted promised none)
 
     kept : withoutLarger (flowOf file) ≡ true → rowsAnswer (rowsOf file) (versionOf file) (workersOf file) (cellsOf file) .number ≡ 0
-    kept unused = ap (λ (a : Rules.Answer). a .number) (ByRules.writer-after-reader file bytes (accepted promised none) unused .0)
+    kept without = ap (λ (a : Rules.Answer). a .number) (ByRules.writer-after-reader file bytes (accepted promised none) without .0)
 
     needed : withoutLarger (flowOf file) ≡ true → length file ≡ 512 * blocksFor (rowCount (rowsOf file))
-    needed unused = sym (ap length same-file) ∙ file-long (rowsOf file) (versionOf file) (workersOf file) (cellsOf file) (kept unused)
+    needed without = sym (ap length same-file) ∙ file-long (rowsOf file) (versionOf file) (workersOf file) (cellsOf file) (kept without)
 
     number-18 : {task : ℕ} → rowsAnswer (rowsOf file) (versionOf file) (workersOf file) (cellsOf file) ≡ refusal 18 task → rowsAnswer (rowsOf file) (versionOf file) (workersOf file) (cellsOf file) .number ≡ 0 → ⊥
     number-18 e zero = omega (arith, sym (ap (λ (a : Rules.Answer). a .number) e) ∙ zero)

@@ -15,10 +15,10 @@ abbrev number : List ℕ → ℕ → Sizes → ℕ → ℕ
 number file version sizes task = rowRefusal (retiredInReader version) (sizes .workers) (sizes .cells) (rowAt file task)
 
 abbrev Inv-loop : tie.InvT-loop
-Inv-loop file version sizes task₀ task = Left (number file version sizes) 1 (sizes .tasks) task
+Inv-loop file version sizes retired task₀ task = Left (number file version sizes) 1 (sizes .tasks) task
 
 abbrev μ-loop : tie.MeasureT-loop
-μ-loop file version sizes task₀ task = sizes .tasks + 1 - task
+μ-loop file version sizes retired task₀ task = sizes .tasks + 1 - task
 
 loop-holds : tie.Need-loop-holds Inv-loop μ-loop
 loop-holds c = begun _ 1 _
