@@ -1,4 +1,6 @@
 // The arrays that the stepped run lends to a step: their types here, what they stand for in specs/, its laws in proofs/, and no code.
+#![tactic(auto)]
+
 use flow::Flow;
 
 // The last write and the reads since it.

@@ -1,4 +1,6 @@
 // A block of 512 bytes: what it states, and its check, refusals 2 to 5.
+#![tactic(auto)]
+
 ghost use Rattle.std.specs.Prelude.{◌≡◌, ◌+◌, ◌*◌, ◌≤◌, ◌<◌, length};
 ghost use Rattle.layout.specs.Bytes.{at, word, word_size};
 ghost use Rattle.layout.specs.Block.{letters_sound, check_sound, version_sound, head_sound, sizes_sound, rest_sound, block_refusal};

@@ -1,5 +1,7 @@
 // Runs cases of the flow file and writes a line for each: its name, and what was answered. Fletcher's vectors stand in vectors.rt;
 // the others are lines of the file stdin, which says how they are read. The file stdout has what 01 says to each.
+#![tactic(auto)]
+
 mod calls;
 mod flows;
 mod say;

@@ -1,4 +1,6 @@
 // The private counters. They are updated in one place, `note`.
+#![tactic(auto)]
+
 ghost use Rattle.std.specs.Prelude.{◌≡◌, [], ℕ, ◌+◌, ◌<◌, ◌≤◌, length, get_or};
 ghost use Rattle.layout.specs.Flow.{most_workers, most_cells, most_accesses};
 ghost use Rattle.layout.specs.Row.{access_at, task_of};

@@ -1,4 +1,6 @@
 // What an operation does to the cells, in a flow of a version.
+#![tactic(auto)]
+
 ghost use Rattle.std.specs.Prelude.{◌≡◌, ◌<◌, length};
 ghost use Rattle.layout.specs.Flow.{most_operations};
 ghost use Rattle.layout.specs.Row.{operation_at};

@@ -1,4 +1,6 @@
 // The check of a flow file. It takes every input, and answers with 01's number and place.
+#![tactic(auto)]
+
 mod checking;
 
 ghost use Rattle.std.specs.Prelude.{◌≡◌};

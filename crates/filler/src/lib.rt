@@ -1,4 +1,6 @@
 // The filling of a block in its own part of the lent output: the head, the block's rows and zeros after them, and the check.
+#![tactic(auto)]
+
 ghost use Rattle.std.specs.Prelude.{◌≡◌, ◌+◌, ◌*◌, ◌≤◌, ◌<◌, length, take};
 ghost use Rattle.layout.specs.Bytes.{padded};
 ghost use Rattle.layout.specs.Flow.{most_tasks, most_workers, most_cells, most_blocks};

@@ -1,5 +1,7 @@
 // Fletcher's check with modulus 255. Sums of 32 bits hold 4,096 bytes before they must be reduced, so they are reduced once for
 // each 4,096 and not at each byte.
+#![tactic(auto)]
+
 ghost use Rattle.std.specs.Prelude.{◌≡◌, ◌+◌, ◌≤◌, ◌<◌, length};
 ghost use Rattle.layout.specs.Fletcher.{after, fletcher, sums as sumsAt};
 

@@ -1,4 +1,6 @@
 // The flow's own kind: its versions and limits, which all code reads from here, and the version and sizes of one flow within them.
+#![tactic(auto)]
+
 ghost use Rattle.std.specs.Prelude.{◌≡◌, ◌+◌, ◌*◌, ◌<◌};
 ghost use Rattle.layout.specs.Bytes.{word_size};
 ghost use Rattle.layout.specs.Flow.{known_version, in_range};

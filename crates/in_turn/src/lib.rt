@@ -1,4 +1,6 @@
 // The run that the programs make of a flow: all workers named in turn, the total times over.
+#![tactic(auto)]
+
 ghost use Rattle.std.specs.Prelude.{◌≡◌, ◌*◌, ◌≤◌, length, take};
 ghost use Rattle.layout.specs.Flow.{most_workers};
 ghost use Rattle.steps.specs.Run.{largest_total};

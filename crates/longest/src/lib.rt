@@ -1,4 +1,6 @@
 // How long a run can take: the worst case of a flow with every worker named once in each stretch.
+#![tactic(auto)]
+
 ghost use Rattle.longest.specs.Promises.{WorstCasePromise};
 
 // A refusal, or the flow's total and the worst case: the most stretches, the most steps, and the most of them that are held.

@@ -1,4 +1,6 @@
 // One step of the stepped run, over arrays that the run lends.
+#![tactic(auto)]
+
 pub mod stepping;
 
 // What became of a step: it advanced, or it was held and why.

@@ -1,4 +1,6 @@
 // The measuring of a flow file: its sizes, its total of advancing steps and its version; and the schedule that names the workers in turn.
+#![tactic(auto)]
+
 mod turns;
 
 ghost use Rattle.std.specs.Prelude.{◌≡◌, ◌+◌, ◌-◌, ◌*◌, ◌≤◌, ◌<◌, length, get_or};

@@ -1,5 +1,7 @@
 // The table of modes that the row check makes of a task's accesses and asks for rules 9, 11 and 17: one number, of which two binary
 // digits belong to each cell that a flow can have. It is made and asked in registers.
+#![tactic(auto)]
+
 ghost use Rattle.std.specs.Prelude.{◌≡◌, ◌≤◌, ◌<◌};
 ghost use Rattle.layout.specs.Flow.{most_cells};
 ghost use Rattle.modes.specs.Table.{mode_in, with_mode, keeps_table, none_owed};

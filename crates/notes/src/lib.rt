@@ -1,4 +1,6 @@
 // What a run keeps of its steps: how many came to what, and each worker's latest held step.
+#![tactic(auto)]
+
 ghost use Rattle.std.specs.Prelude.{◌≡◌, [], ◌∷◌, ◌<◌};
 ghost use Rattle.layout.specs.Flow.{most_workers};
 ghost use Rattle.steps.specs.Held.{reason_of, cell_of};

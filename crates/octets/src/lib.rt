@@ -1,4 +1,6 @@
 // What the format does with single bytes: two-byte numbers, bytes that are all zero, bytes set to zero.
+#![tactic(auto)]
+
 ghost use Rattle.std.specs.Prelude.{◌≡◌, ◌+◌, ◌*◌, ◌/◌, ◌%◌, ◌≤◌, ◌<◌, length, replicate};
 ghost use Rattle.layout.specs.Bytes.{all_zero, word_size};
 

@@ -1,4 +1,6 @@
 // The place of a worker after a step that advances. In the same task the start of the task's row is handed on.
+#![tactic(auto)]
+
 ghost use Rattle.std.specs.Prelude.{◌≡◌, ◌+◌, ◌<◌, length};
 ghost use Rattle.layout.specs.Flow.{most_tasks, most_accesses, most_operations};
 ghost use Rattle.layout.specs.File.{row_start};

@@ -1,4 +1,6 @@
 // The reader: a file's rows, one after another, into lent bytes. It takes every input, and answers with 01's number and place.
+#![tactic(auto)]
+
 ghost use Rattle.std.specs.Prelude.{◌≡◌, ◌++◌, ◌+◌, ◌*◌, ◌≤◌, ◌<◌, length, drop};
 ghost use Rattle.layout.specs.Lists.{each, joined};
 ghost use Rattle.layout.specs.Flow.{most_tasks};

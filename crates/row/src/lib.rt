@@ -1,4 +1,6 @@
 // The check of a row: refusals 6 to 11, 17 and 18. The row is read where the caller keeps its 48 bytes.
+#![tactic(auto)]
+
 ghost use Rattle.std.specs.Prelude.{◌≡◌, true, cond, ◌+◌, ◌*◌, ◌≤◌, ◌<◌, length};
 ghost use Rattle.layout.specs.Lists.{each, all};
 ghost use Rattle.layout.specs.Flow.{most_tasks, most_cells, most_accesses, most_operations};

@@ -1,4 +1,6 @@
 // The check of one row as a call for C, so that its stack can be measured by itself (test/bench.c). It is no call of the library.
+#![tactic(auto)]
+
 ghost use Rattle.std.specs.Prelude.{◌≡◌, cond, leb};
 ghost use Rattle.layout.specs.Flow.{most_cells};
 ghost use Rattle.layout.specs.Row.{retired_in_reader, row_refusal};

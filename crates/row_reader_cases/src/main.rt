@@ -1,5 +1,7 @@
 // Reads files row by row, each through one reader that is lent to `next` again and again, and writes what the calls answer: flow A,
 // the largest flow, and files that are refused. The file stdout beside src/ has what 01 says to each.
+#![tactic(auto)]
+
 mod flows;
 mod say;
 

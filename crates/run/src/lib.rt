@@ -1,4 +1,6 @@
 // The plain run and the stepped run of a flow file, from lent cells. Each takes every input, and answers with 01's number and place.
+#![tactic(auto)]
+
 mod plainly;
 mod scheduled;
 mod telling;

@@ -1,5 +1,7 @@
 // Runs flow A, from standard input, from starts and under schedules most of which are not among P1 to P8, and writes a line for each: its
 // name, what was answered, and the cells after. The file stdout beside src/ has what 01 says to each.
+#![tactic(auto)]
+
 mod say;
 
 use flow::Flow;

@@ -1,4 +1,6 @@
 // The calls for programs in C. Each fills the words of its answer, in the order of include/sflw.h, and returns the number.
+#![tactic(auto)]
+
 ghost use Rattle.std.specs.Prelude.{◌≡◌};
 ghost use Rattle.sflw.specs.Words.{run_words, Checked, Read, Written, Plain, Ran};
 

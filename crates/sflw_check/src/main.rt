@@ -1,4 +1,6 @@
 // What the check says of a flow from standard input: its version, its sizes and its total.
+#![tactic(auto)]
+
 use flow::Flow;
 use libc::{STDIN_FILENO, STDOUT_FILENO};
 

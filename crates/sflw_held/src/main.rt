@@ -1,4 +1,6 @@
 // Why workers were held: a flow from standard input, run as the run program does it, and what is told of its held steps.
+#![tactic(auto)]
+
 mod say;
 
 ghost use Rattle.std.specs.Prelude.{◌≡◌, ◌*◌, ◌≤◌, length};

@@ -1,4 +1,6 @@
 // How long a run of a flow from standard input can take, with every worker named once in each stretch.
+#![tactic(auto)]
+
 use flow::Flow;
 use libc::{STDIN_FILENO, STDOUT_FILENO};
 

@@ -1,4 +1,6 @@
 // The run program: a flow from standard input, all cells at 0, the workers named in turn, the total times over.
+#![tactic(auto)]
+
 mod say;
 
 ghost use Rattle.std.specs.Prelude.{◌≡◌, ◌*◌, ◌≤◌, length};

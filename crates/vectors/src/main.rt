@@ -1,5 +1,7 @@
 // Runs the stored cases of the test that holds the library against the reference in C, and says how many held and how many
 // differed. The file stdin has the cases; test/vectors.c writes it, and says at its head how a case is laid out.
+#![tactic(auto)]
+
 mod calls;
 mod case;
 mod head;

@@ -1,5 +1,7 @@
 // The writer: rows, a version, workers and cells into a file. Each block is filled in its own part of the lent output. It takes every input, and
 // answers with 01's number and place.
+#![tactic(auto)]
+
 ghost use Rattle.std.specs.Prelude.{◌≡◌, cond, ◌++◌, ◌+◌, ◌*◌, ◌/◌, ◌≤◌, ◌<◌, length, drop};
 ghost use Rattle.layout.specs.Flow.{most_tasks, most_workers, most_cells};
 ghost use Rattle.layout.specs.Refusal.{refusal, first_at};

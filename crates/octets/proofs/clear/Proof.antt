@@ -8,18 +8,18 @@ use Rattle.layout.proofs.Zeros.{clear_more, cleared}
 use Rattle.octets.proofs.clear.Statement.{statement}
 use Rattle.octets.proofs.clear.Tie as tie
 
-abbrev invariant-loop : tie.invariant-loop
+abbrev invariant-loop : tie.invariant-loop-i
 invariant-loop bytes₀ i₀ bytes i = (i ≤ length bytes₀) × (length bytes ≡ length bytes₀) × (bytes ≡ replicate i 0 ++ drop i bytes₀)
 
-abbrev decreases-loop : tie.decreases-loop
+abbrev decreases-loop : tie.decreases-loop-i
 decreases-loop bytes₀ i₀ bytes i = length bytes₀ - i
 
-loop-again : tie.Need-loop-preserved invariant-loop decreases-loop
+loop-again : tie.Need-loop-i-preserved invariant-loop decreases-loop
 loop-again c =
-    (search rules, search rules, clear_more _ _ _ c.loop-test.true c.before.loop.invariant.1 c.before.loop.invariant.2)
+    (search rules, search rules, clear_more _ _ _ c.loop-i-test.true c.before.loop-i.invariant.1 c.before.loop-i.invariant.2)
 
 returns : tie.Need-returns invariant-loop decreases-loop
-returns c = cleared _ _ _ c.before.loop.invariant.0 (search rules) c.before.loop.invariant.2
+returns c = cleared _ _ _ c.before.loop-i.invariant.0 (search rules) c.before.loop-i.invariant.2
 
 pub clear_spec : {M : Type 1} → statement M
 clear_spec =
