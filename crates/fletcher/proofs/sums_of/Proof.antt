@@ -9,23 +9,23 @@ use Rattle.layout.proofs.Fletcher.{Small, part_more, late_end}
 use Rattle.fletcher.proofs.sums_of.Statement.{statement}
 use Rattle.fletcher.proofs.sums_of.Tie as tie
 
-abbrev invariant-loop : tie.invariant-loop
+abbrev invariant-loop : tie.invariant-loop-from
 invariant-loop bytes done₀ from₀ done from =
     (from ≤ length bytes) × Small (sums done.a done.b) × (fletcher bytes ≡ after (sums done.a done.b) (drop from bytes))
 
-abbrev decreases-loop : tie.decreases-loop
+abbrev decreases-loop : tie.decreases-loop-from
 decreases-loop bytes done₀ from₀ done from = length bytes - from
 
-loop-again : tie.Need-loop-preserved invariant-loop decreases-loop
+loop-again : tie.Need-loop-from-preserved invariant-loop decreases-loop
 loop-again c =
-    let inv = c.before.before.before.loop.invariant in
-    let m = part_more _ _ _ _ (c.before.before.before.loop.from + 4096) _ _ (search rules) inv.1 c.add.ensures.0 c.add.ensures.1 inv.2 in
+    let inv = c.before.before.before.loop-from.invariant in
+    let m = part_more _ _ _ _ (c.before.before.before.loop-from.from + 4096) _ _ (search rules) inv.1 c.add-done.ensures.0 c.add-done.ensures.1 inv.2 in
     (search rules, m.0, m.1)
 
 returns : tie.Need-returns invariant-loop decreases-loop
 returns c =
-    let inv = c.before.before.before.loop.invariant in
-    let m = part_more _ _ _ _ _ _ _ inv.0 inv.1 c.add2.ensures.0 c.add2.ensures.1 inv.2 in
+    let inv = c.before.before.before.loop-from.invariant in
+    let m = part_more _ _ _ _ _ _ _ inv.0 inv.1 c.add.ensures.0 c.add.ensures.1 inv.2 in
     let e = late_end _ _ c.before.before.before.before.before.args.bytes.now _ (le_refl _) m.1 in
     (ap (λ (s : Sums). s.a) e, ap (λ (s : Sums). s.b) e)
 

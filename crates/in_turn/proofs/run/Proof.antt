@@ -35,10 +35,10 @@ name-workers-requires c κs =
 steps-there : (c : tie.After-name-workers) → c.name-workers.result ≤ length c.name-workers.new.1.1.0
 steps-there c =
     let start = from c.before in
-    let measured = start.pre.0 in
+    let measured = start.requires.0 in
     let steps : start.args.workers * start.args.total ≤ most_workers * largest_total =
     subst (λ (n : ℕ). n ≤ most_workers * largest_total) (sym (ap₂ ◌*◌ measured.workers-are measured.total-is)) (steps_fit _ measured.accepted) in
-    omega (arith, c.name-workers.ensures.0, c.name-workers.auto.1.1.0, start.pre.1)
+    omega (arith, c.name-workers.ensures.0, c.name-workers.auto.1.1.0, start.requires.1)
 
 slice-reshare-prefix-run : tie.Need-slice-reshare-prefix-run
 slice-reshare-prefix-run c = steps-there (named c)
@@ -52,7 +52,7 @@ returns c =
     let turn = named run.before.before in
     let start = from turn.before in
     let a = start.args in
-    let measured = start.pre.0 in
+    let measured = start.requires.0 in
     let promised : RunPromise a.file.now a.cells.now (in_turn (flow_of a.file.now)) run.run.result run.run.new.1.0 =
     subst (λ (schedule : List ℕ). RunPromise a.file.now a.cells.now schedule run.run.result run.run.new.1.0)
     (turn.name-workers.ensures.1

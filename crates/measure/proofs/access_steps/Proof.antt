@@ -47,22 +47,22 @@ loop-again c =
     let row = (from-loop head).args.row.now in
     let steps = head.loop.steps in
     let write = c.before.is-write.result in
-    let used : head.loop.j < get_or row 1 0 = omega (arith, c.before.before.if1.false, head.loop.inv.0, head.loop.inv.1) in
+    let used : head.loop.j < get_or row 1 0 = omega (arith, c.before.before.if1.false, head.loop.invariant.0, head.loop.invariant.1) in
     let more : (c.if2.steps ≡ steps + cond write 4 2) × (c.if2.steps ≤ steps + 4) =
     ⊎_elim (λ w. (w.1 ∙ ap (λ (b : Bool). steps + cond b 4 2) (sym w.0.taken), omega arith))
     (λ w. (w.1 ∙ ap (λ (b : Bool). steps + cond b 4 2) (sym w.0.left), omega arith)) c.if2.branch in (
-      omega (arith, used, head.loop.inv.1),
+      omega (arith, used, head.loop.invariant.1),
       search rules,
       omega (arith, more.1),
       access_next (get_or row 1 0) (access_at row) head.loop.j steps c.if2.steps _ write used c.before.is-write.ensures more.0
-          head.loop.inv.3,
+          head.loop.invariant.3,
     )
 
 returns-2 : tie.Need-returns-2 invariant-loop decreases-loop
 returns-2 c =
     let head = c.before in
     let start = from-loop head in
-    (whole head (omega (arith, c.loop-test.false, head.before.index2.ensures.0, start.pre.1)), omega (arith, start.pre, head.loop.invariant))
+    (whole head (omega (arith, c.loop-test.false, head.before.index2.ensures.0, start.requires.1)), omega (arith, start.requires, head.loop.invariant))
 
 pub access_steps_spec : {M : Type 1} → statement M
 access_steps_spec =

@@ -32,7 +32,7 @@ access-steps-requires c κs =
     let head = head_of placed in
     let start = from-loop head in
     let a = start.args in
-    let fits = row_fits a.file.now a.tasks head.loop.done _ _ start.pre.0 placed.before.loop-test.true placed.start.ensures in
+    let fits = row_fits a.file.now a.tasks head.loop.done _ _ start.requires.0 placed.before.loop-test.true placed.start.ensures in
     (fits.size, fits.few-accesses)
 
 loop-again : tie.Need-loop-preserved invariant-loop decreases-loop
@@ -45,14 +45,14 @@ loop-again c =
     let l = head.loop in
     let more = placed.before.loop-test.true in
     let from = placed.start in
-    let fits = row_fits a.file.now a.tasks l.done _ _ start.pre.0 more from.ensures in
+    let fits = row_fits a.file.now a.tasks l.done _ _ start.requires.0 more from.ensures in
     let accesses = counted.access-steps.ensures in (
       search rules,
       omega (arith, accesses.1, c.wide.ensures.0, fits.few-operations),
       task_next a.workers a.tasks (λ i. task_of (row_at a.file.now (i + 1))) l.done l.total _ _ more
           (ap (λ (n : ℕ). l.total + n)
           (row_counts _ (row_at a.file.now (l.done + 1)) _ _ _ (row_there a.file.now from.result (l.done + 1) from.ensures) accesses.0 c.wide.ensures.0))
-          l.inv.2,
+          l.invariant.2,
     )
 
 returns : tie.Need-returns invariant-loop decreases-loop

@@ -43,7 +43,7 @@ element-copy-out-counts c = place-below c
 add-counts : tie.Need-overflow-add-counts
 add-counts c =
     let start = (told_at c.before).before in
-    omega (arith, start.pre.1, ap (λ (k : ℕ). get_or start.args.counts.now k 0) (place_is c.before))
+    omega (arith, start.requires.1, ap (λ (k : ℕ). get_or start.args.counts.now k 0) (place_is c.before))
 
 mul-counts-2 : tie.Need-overflow-mul-counts-2
 mul-counts-2 c = omega (arith, place-below c.before)

@@ -13,30 +13,30 @@ use Rattle.row.proofs.accesses_sound.Statement.{statement}
 use Rattle.row.proofs.accesses_sound.Tie as tie
 
 -- the number is at most what a row can have
-counted : (c : tie.After-index) → c.index.result ≤ most_accesses
-counted c = rw c.index.ensures.0 (counts_kept c.before.before.before.args.row.now c.before.before.before.requires.1).0
+counted : (c : tie.After-index-count) → c.index-count.result ≤ most_accesses
+counted c = rw c.index-count.ensures.0 (counts_kept c.before.before.before.args.row.now c.before.before.before.requires.1).0
 
 -- where the function starts, as seen once the number is read
-abbrev from-index : tie.After-index → tie.Start
+abbrev from-index : tie.After-index-count → tie.Start
 from-index c = c.before.before.before
 
 -- the used ones, at the number that the row states
-used : (c : tie.After-accesses-in-range)
-    → c.accesses-in-range.result
+used : (c : tie.After-accesses_in_range)
+    → c.accesses_in_range.result
     ≡ all (access_in_range (from-index c.before).args.cells) (each (at (from-index c.before).args.row.now 1) (access_at (from-index c.before).args.row.now))
 used c =
     let start = from-index c.before in
-    c.accesses-in-range.ensures ∙ ap (λ (n : ℕ). all (access_in_range start.args.cells) (each n (access_at start.args.row.now))) c.before.index.ensures.0
+    c.accesses_in_range.ensures ∙ ap (λ (n : ℕ). all (access_in_range start.args.cells) (each n (access_at start.args.row.now))) c.before.index-count.ensures.0
 
-returns : tie.Need-returns
+returns : tie.Need-returns-then-not-accesses_in_range
 unfolding accesses_sound task_of
-returns c = rw (sym (used c.before) ∙ not-true _ c.if1.true)
+returns c = rw (sym (used c.before) ∙ not-true _ c.if-not-accesses_in_range.true-raw)
 
-returns-2 : tie.Need-returns-2
+returns-2 : tie.Need-returns
 unfolding accesses_sound task_of
 returns-2 c =
     let sound = c.before.before in
-    rw (sym (used sound.before) ∙ not-false _ sound.if1.false, ← sound.before.before.index.ensures.0) c.few-zero.ensures
+    rw (sym (used sound.before) ∙ not-false _ sound.if-not-accesses_in_range.false-raw, ← sound.before.before.index-count.ensures.0) c.few_zero.ensures
 
 pub accesses_sound_spec : {M : Type 1} → statement M
 accesses_sound_spec =

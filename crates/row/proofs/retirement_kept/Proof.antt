@@ -8,18 +8,18 @@ use Rattle.row.proofs.Codes.{six_codes}
 use Rattle.row.proofs.retirement_kept.Statement.{statement}
 use Rattle.row.proofs.retirement_kept.Tie as tie
 
-returns : tie.Need-returns
-returns c = rw (not-true c.before.args.retired c.if1.true)
+returns : tie.Need-returns-then-not-retired
+returns c = rw (not-true c.before.args.retired c.if-not-retired.true-raw)
 
 -- where the function starts, as seen once all codes are read
-abbrev from-codes : tie.After-shared-slice-known6 → tie.Start
+abbrev from-codes : tie.After-shared_slice_known-6-1 → tie.Start
 from-codes c = c.before.before.before.before.before.before.before
 
-returns-2 : tie.Need-returns-2
+returns-2 : tie.Need-returns
 returns-2 c =
     let start = from-codes c in
-    rw (not-false start.args.retired c.before.before.before.before.before.before.if1.false)
-    (ap not (six_codes most_cells start.args.row.now start.pre.1.0 start.pre.1.1))
+    rw (not-false start.args.retired c.before.before.before.before.before.before.if-not-retired.false-raw)
+    (ap not (six_codes most_cells start.args.row.now start.requires.1.0 start.requires.1.1))
 
 pub retirement_kept_spec : {M : Type 1} → statement M
 retirement_kept_spec =

@@ -6,25 +6,25 @@ use Rattle.row.proofs.Indexes.{HoldsSoFar, held_none, held_more, held_broken, he
 use Rattle.row.proofs.used_sound.Statement.{statement}
 use Rattle.row.proofs.used_sound.Tie as tie
 
-abbrev invariant-loop : tie.invariant-loop
+abbrev invariant-loop : tie.invariant-loop-i
 invariant-loop row count cells i₀ i = HoldsSoFar (operation_sound cells row) (λ k. k) count i
 
-abbrev decreases-loop : tie.decreases-loop
+abbrev decreases-loop : tie.decreases-loop-i
 decreases-loop row count cells i₀ i = count - i
 
-loop-holds : tie.Need-loop-init invariant-loop decreases-loop
+loop-holds : tie.Need-loop-i-init invariant-loop decreases-loop
 loop-holds c = held_none _ _ _
 
-returns : tie.Need-returns invariant-loop decreases-loop
+returns : tie.Need-returns-then-not-operation_sound invariant-loop decreases-loop
 returns c =
-    held_broken c.before.before.before.loop.invariant (search rules) c.before.operation-sound.ensures c.if1.true
+    held_broken c.before.before.before.loop-i.invariant (search rules) c.before.operation_sound.ensures c.if-not-operation_sound.true-raw
 
-loop-again : tie.Need-loop-preserved invariant-loop decreases-loop
+loop-again : tie.Need-loop-i-preserved invariant-loop decreases-loop
 loop-again c =
-    held_more c.before.before.before.loop.invariant (search rules) c.before.operation-sound.ensures c.if1.false
+    held_more c.before.before.before.loop-i.invariant (search rules) c.before.operation_sound.ensures c.if-not-operation_sound.false-raw
 
-returns-2 : tie.Need-returns-2 invariant-loop decreases-loop
-returns-2 c = held_all c.before.loop.invariant c.loop-test.false
+returns-2 : tie.Need-returns invariant-loop decreases-loop
+returns-2 c = held_all c.before.loop-i.invariant c.loop-i-test.false
 
 pub used_sound_spec : {M : Type 1} → statement M
 used_sound_spec =

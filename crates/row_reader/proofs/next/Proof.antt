@@ -124,16 +124,16 @@ module _ {M : Type 1} {𝓤 : Ura M} (𝓛 : Logic 𝓤) (at_mem : Memory → SP
   abbrev to_fetch : (Fetch 𝓛 at_mem run).Ghost
   to_fetch = (((κ', tt), (q', tt), tt, fields, passed), tt)
 
-  asked : ent 𝓤 (on_entry 𝓛 fetch.signature (κ', tt) (q', tt) fields passed) ((Fetch 𝓛 at_mem run).pre to_fetch)
+  asked : ent 𝓤 (on_entry 𝓛 fetch.signature (κ', tt) (q', tt) fields passed) ((Fetch 𝓛 at_mem run).requires to_fetch)
   asked = qed 𝓛 ((‵ (flft κ' q') ⊛ ‵ ftrue) ∷ ‵ (owns (ShrSlice (named 0) κ' u8 ∷ u32 ∷ []) fields passed) ∷ []) ∵ join ! $ frame ! $ done !
 
   -- what the struct owns gives what the callee asks, and is kept
-  apart : ent 𝓤 (⋆ 𝓛 (‵ (Own h) ∷ (‵ (flft κ' q') ⊛ ‵ ftrue) ∷ [])) (sep 𝓤 ((Fetch 𝓛 at_mem run).pre to_fetch) (sem 𝓛 (Own h)))
+  apart : ent 𝓤 (⋆ 𝓛 (‵ (Own h) ∷ (‵ (flft κ' q') ⊛ ‵ ftrue) ∷ [])) (sep 𝓤 ((Fetch 𝓛 at_mem run).requires to_fetch) (sem 𝓛 (Own h)))
   apart =
       qed 𝓛 (‵ (Own h) ∷ (‵ (flft κ' q') ⊛ ‵ ftrue) ∷ []) ∵ use1 𝓛 (‵ (Own h) ⊛ ‵ (Own h)) ((LL.copy (D κ') (T'.the_copy (α κ')) 𝓛).twice h (mach ∷ [])) $ split ! $
       use1 𝓛 (given (mach ∷ [] ≡ mach ∷ []) (‵ (all_own (D κ').parts (L κ') fields))) (own_open 𝓛 (D κ') (L κ') fields mach) $ learn ! (λ _.
       -- [what the fields own together; what the struct owns; the token]
-      move ! (2 ∷ 0 ∷ []) $ use2 𝓛 (raw ((Fetch 𝓛 at_mem run).pre to_fetch)) asked $ frame ! $ done !)
+      move ! (2 ∷ 0 ∷ []) $ use2 𝓛 (raw ((Fetch 𝓛 at_mem run).requires to_fetch)) asked $ frame ! $ done !)
 
   abbrev Said : Fetched → Type 0
   Said r = Answered h.file.now h.task r
@@ -145,7 +145,7 @@ module _ {M : Type 1} {𝓤 : Ura M} (𝓛 : Logic 𝓤) (at_mem : Memory → SP
   abbrev to_after : (PlaceAfter 𝓛 at_mem run).Ghost
   to_after = ((tt, tt, tt, (h.task, tt), (vint w32 h.task ∷ [], tt)), tt)
 
-  after_asked : h.task < 2 ^ 32 → ent 𝓤 (sem 𝓛 ftrue) ((PlaceAfter 𝓛 at_mem run).pre to_after)
+  after_asked : h.task < 2 ^ 32 → ent 𝓤 (sem 𝓛 ftrue) ((PlaceAfter 𝓛 at_mem run).requires to_after)
   after_asked fits = qed 𝓛 (‵ ftrue ∷ []) ∵ nothing ! $ owned ! u32 (Is u32) (uint_Makes 𝓛 w32) h.task _ (refl, fits) $ fjoin ! $ move ! (1 ∷ 0 ∷ []) $ join ! $ frame ! $ done !
 
   after_said : (m : ℕ) → ent 𝓤 (ensured 𝓛 place_after.ended (place_after.clauses 𝓛 at_mem run) tt (h.task, tt) tt m) (fact 𝓤 (m ≡ following h.task))
@@ -176,7 +176,7 @@ module _ {M : Type 1} {𝓤 : Ura M} (𝓛 : Logic 𝓤) (at_mem : Memory → SP
         -- [the struct's cell; what it owns; the open borrow; obs; auth; 'a's token; _5; …; _4; …; _3; …; _2; …; _1; …; room for _0; …]
         assigns ! (of_opd ! (load ! (from ! (hop ! (look ! 14 refl) (fld ! refl (stop !)))) (look_in ! 0 (sub ! 1 refl (whole !))))) (from ! (stop !)) (init ! 12 refl (tt, wt.1.1.0)) $
         assigns ! (of_opd ! (load ! (from ! (hop ! (look ! 14 refl) (fld ! refl (stop !)))) (look_in ! 0 (sub ! 0 refl (whole !))))) (from ! (stop !)) (init ! 8 refl (tt, wt.1.0)) $
-        move ! (1 ∷ 5 ∷ []) $ use2 𝓛 (raw ((Fetch 𝓛 at_mem run).pre to_fetch) ⊛ ‵ (Own h)) apart $ split ! $
+        move ! (1 ∷ 5 ∷ []) $ use2 𝓛 (raw ((Fetch 𝓛 at_mem run).requires to_fetch) ⊛ ‵ (Own h)) apart $ split ! $
         -- [what fetch asks; what the struct owns; its cell; the open borrow; obs; auth; _5; …]
         calls_at ! fm (Fetch 𝓛 at_mem run) known to_fetch (and_then ! (load ! (from ! (stop !)) (look ! 8 refl)) (and_then ! (load ! (from ! (stop !)) (look ! 12 refl)) (no_more !))) (λ u.
         use1 𝓛 (later (some (λ (r : Fetched). ((‵ (flft κ' q') ⊛ ‵ ftrue) ⊛ ‵ ((F.the_row).own_val r (u ∷ []))) ⊛ raw (ensured 𝓛 fetch.ended (fetch.clauses 𝓛 at_mem run) (κ', tt) fields tt r)))) (id⊢ 𝓤 _) $ await ! tt $ pick ! (λ r.
@@ -184,7 +184,7 @@ module _ {M : Type 1} {𝓤 : Ura M} (𝓛 : Logic 𝓤) (at_mem : Memory → SP
         -- [the result; the token; what the struct owns; its cell; the open borrow; obs; auth; _5; …; _4; …; _3; …; _2; …; _1; …; room for _0; …]
         peeks ! F.the_row (Is F.the_row) (shows 𝓛 F.the_row) r (u ∷ []) (λ is. let rt = ((LL.lawful F.the_type F'.the_laws 𝓛).typed r _ is).0 in
         land ! (from ! (stop !)) (init ! 11 refl rt) $
-        nothing ! $ use1 𝓛 (raw ((PlaceAfter 𝓛 at_mem run).pre to_after)) (after_asked wt.1.1.0.fits) $
+        nothing ! $ use1 𝓛 (raw ((PlaceAfter 𝓛 at_mem run).requires to_after)) (after_asked wt.1.1.0.fits) $
         calls_at ! fm (PlaceAfter 𝓛 at_mem run) known' to_after (and_then ! (load ! (from ! (stop !)) (look ! 14 refl)) (no_more !)) (λ v.
         use1 𝓛 (later (some (λ (m : ℕ). (‵ ftrue ⊛ ‵ (u32.own_val m (v ∷ []))) ⊛ raw (ensured 𝓛 place_after.ended (place_after.clauses 𝓛 at_mem run) tt (h.task, tt) tt m)))) (id⊢ 𝓤 _) $ await ! tt $ pick ! (λ m.
         split ! $ move ! (1 ∷ []) $ use1 𝓛 (raw (fact 𝓤 (m ≡ following h.task))) (after_said m) $ heard ! (m ≡ following h.task) (λ e'. split ! $ drop ! $

@@ -152,7 +152,7 @@ module _ {M : Type 1} {𝓤 : Ura M} (𝓛 : Logic 𝓤) (mem' : Memory → SPro
   abbrev to_new : (New 𝓛 mem' run).Ghost
   to_new = (((κ, tt), (q, tt), tt, (s, tt), (v ∷ [], tt)), tt)
 
-  goes_new : ent 𝓤 (⋆ 𝓛 ((‵ (flft κ q) ⊛ ‵ ftrue) ∷ ‵ OwnFile ∷ [])) ((New 𝓛 mem' run).pre to_new)
+  goes_new : ent 𝓤 (⋆ 𝓛 ((‵ (flft κ q) ⊛ ‵ ftrue) ∷ ‵ OwnFile ∷ [])) ((New 𝓛 mem' run).requires to_new)
   goes_new = qed 𝓛 ((‵ (flft κ q) ⊛ ‵ ftrue) ∷ ‵ OwnFile ∷ []) ∵ nothing ! $ move ! (2 ∷ 0 ∷ []) $ fjoin ! $ move ! (1 ∷ 0 ∷ []) $ join ! $ frame ! $ done !
 
   -- ---- the local, in memory
@@ -175,7 +175,7 @@ module _ {M : Type 1} {𝓤 : Ura M} (𝓛 : Logic 𝓤) (mem' : Memory → SPro
   abbrev to_next : Rows → ℕ → ℕ → GName → (Next 𝓛 mem' run).Ghost
   to_next d l ν δ = (((ν ∷ κ, (κ, tt)), (PosShare.left q, (PosShare.right q, tt)), (meet_⊑_right (ν ∷ []) κ, tt), (ref d l δ, tt), (vptr l 0 ∷ [], tt)), tt)
 
-  goes_next : (d : Rows) (l ν : ℕ) (δ : GName) → ent 𝓤 (⋆ 𝓛 (‵ (flft (ν ∷ κ) (PosShare.left q)) ∷ ‵ (flft κ (PosShare.right q)) ∷ ‵ ((MutRef (named 0) (ν ∷ κ) (R κ)).own_val (ref d l δ) (vptr l 0 ∷ [])) ∷ [])) ((Next 𝓛 mem' run).pre (to_next d l ν δ))
+  goes_next : (d : Rows) (l ν : ℕ) (δ : GName) → ent 𝓤 (⋆ 𝓛 (‵ (flft (ν ∷ κ) (PosShare.left q)) ∷ ‵ (flft κ (PosShare.right q)) ∷ ‵ ((MutRef (named 0) (ν ∷ κ) (R κ)).own_val (ref d l δ) (vptr l 0 ∷ [])) ∷ [])) ((Next 𝓛 mem' run).requires (to_next d l ν δ))
   goes_next d l ν δ =
       qed 𝓛 (‵ (flft (ν ∷ κ) (PosShare.left q)) ∷ ‵ (flft κ (PosShare.right q)) ∷ ‵ ((MutRef (named 0) (ν ∷ κ) (R κ)).own_val (ref d l δ) (vptr l 0 ∷ [])) ∷ []) ∵
       nothing ! $ move ! (3 ∷ 0 ∷ []) $ fjoin ! $ nothing ! $ move ! (3 ∷ 0 ∷ []) $ join ! $ move ! (2 ∷ 0 ∷ []) $ join ! $ join ! $ frame ! $ done !
@@ -184,7 +184,7 @@ module _ {M : Type 1} {𝓤 : Ura M} (𝓛 : Logic 𝓤) (mem' : Memory → SPro
   abbrev to_tell : ℕ → ℕ → Fetched → Val → (Tell 𝓛 mem' run).Ghost
   to_tell k j r u = ((tt, tt, tt, (k, (j, (silent, (r, tt)))), (vint w32 k ∷ [], (vint w32 j ∷ [], (vint w32 silent ∷ [], (u ∷ [], tt))))), tt)
 
-  goes_tell : (k j : ℕ) (r : Fetched) (u : Val) → k < 2 ^ 32 → j < 2 ^ 32 → ent 𝓤 (sem 𝓛 ((F.the_row).own_val r (u ∷ []))) ((Tell 𝓛 mem' run).pre (to_tell k j r u))
+  goes_tell : (k j : ℕ) (r : Fetched) (u : Val) → k < 2 ^ 32 → j < 2 ^ 32 → ent 𝓤 (sem 𝓛 ((F.the_row).own_val r (u ∷ []))) ((Tell 𝓛 mem' run).requires (to_tell k j r u))
   goes_tell k j r u k_fits j-fits =
       qed 𝓛 (‵ ((F.the_row).own_val r (u ∷ [])) ∷ []) ∵ nothing ! $ move ! (1 ∷ 0 ∷ []) $ fjoin ! $ owned ! u32 (Is u32) (uint_Makes 𝓛 w32) silent _ (refl, silent-fits) $ fjoin ! $
       owned ! u32 (Is u32) (uint_Makes 𝓛 w32) j _ (refl, j-fits) $ fjoin ! $ owned ! u32 (Is u32) (uint_Makes 𝓛 w32) k _ (refl, k_fits) $ fjoin ! $ nothing ! $ join ! $ frame ! $ done !
@@ -256,7 +256,7 @@ module _ {M : Type 1} {𝓤 : Ura M} (𝓛 : Logic 𝓤) (mem' : Memory → SPro
         -- [ν ∷ κ's; the rest; right; the reader; _10; …]
         move ! (3 ∷ []) $ use1 𝓛 (later (some (λ (δ : GName). ‵ ((MutRef (named 0) (ν ∷ κ) (R κ)).own_val (ref t.d l₄ δ) (vptr l₄ 0 ∷ [])) ⊛ ‵ (flent (ν ∷ κ) (Body (mem (R κ)) l₄ 0 δ))))) (lends_ref 𝓛 (R κ) (named 0) (ν ∷ κ) t.d l₄ 0) $ await ! tt $ pick ! (λ δ. split ! $
         -- [the reference; the lender's part; ν ∷ κ's; the rest; right; _10; …]
-        move ! (2 ∷ 4 ∷ 0 ∷ []) $ use3 𝓛 (raw ((Next 𝓛 mem' run).pre (to_next t.d l₄ ν δ))) (goes_next t.d l₄ ν δ) $
+        move ! (2 ∷ 4 ∷ 0 ∷ []) $ use3 𝓛 (raw ((Next 𝓛 mem' run).requires (to_next t.d l₄ ν δ))) (goes_next t.d l₄ ν δ) $
         -- [what next asks; the lender's part; the rest; _10; …]
         calls_at ! fm (Next 𝓛 mem' run) known_next (to_next t.d l₄ ν δ) (and_then ! (load ! (from ! (stop !)) (look ! 3 refl)) (no_more !)) (λ u.
         use1 𝓛 (later (some (λ (r : Fetched). ((‵ (flft (ν ∷ κ) (PosShare.left q)) ⊛ ‵ (flft κ (PosShare.right q)) ⊛ ‵ ftrue) ⊛ ‵ ((F.the_row).own_val r (u ∷ []))) ⊛ raw (ensured 𝓛 next.ended (next.clauses 𝓛 mem' run) (ν ∷ κ, (κ, tt)) (ref t.d l₄ δ, tt) tt r)))) (id⊢ 𝓤 _) $ await ! tt $ pick ! (λ r.
@@ -275,7 +275,7 @@ module _ {M : Type 1} {𝓤 : Ura M} (𝓛 : Logic 𝓤) (mem' : Memory → SPro
         -- [_4; what the reader owns; left; the result; right; true; _10; …]
         move ! (2 ∷ 4 ∷ []) $ use2 𝓛 (‵ (flft κ q)) (𝓛.lfts.lft_join κ q) $
         -- [the token; _4; what the reader owns; the result; true; _10; …; _9; …; _8; …; _7; …; _6; …; _5; …; (_4) …; _3; …; _2; …; _1; …; _0; …; the file's]
-        move ! (3 ∷ []) $ use1 𝓛 (raw ((Tell 𝓛 mem' run).pre (to_tell t.k t.j r u))) (goes_tell t.k t.j r u t.k-fits (lt_of_le_of_lt t.upto n-fits)) $
+        move ! (3 ∷ []) $ use1 𝓛 (raw ((Tell 𝓛 mem' run).requires (to_tell t.k t.j r u))) (goes_tell t.k t.j r u t.k-fits (lt_of_le_of_lt t.upto n-fits)) $
         calls_at ! fm (Tell 𝓛 mem' run) known-tell (to_tell t.k t.j r u)
         (and_then ! (load ! (from ! (stop !)) (look ! 15 refl)) (and_then ! (load ! (from ! (stop !)) (look ! 13 refl)) (and_then ! (load ! (from ! (stop !)) (look ! 18 refl)) (and_then ! (load ! (from ! (stop !)) (look ! 11 refl)) (no_more !))))) (λ y.
         use1 𝓛 (later (some (λ (m : ℕ). (‵ ftrue ⊛ ‵ (u32.own_val m (y ∷ []))) ⊛ raw (ensured 𝓛 tell.ended (tell.clauses 𝓛 mem' run) tt (t.k, (t.j, (silent, (r, tt)))) tt m)))) (id⊢ 𝓤 _) $ await ! tt $ pick ! (λ m.
@@ -322,7 +322,7 @@ module _ {M : Type 1} {𝓤 : Ura M} (𝓛 : Logic 𝓤) (mem' : Memory → SPro
       pass1 ! (init ! 18 refl ((shr_slice_Lawful 𝓛 (named 0) κ u8).typed s (v ∷ []) p).0) $ pass1 ! (init ! 16 refl (tt, record { fits = n-fits })) $ pass1 ! (init ! 14 refl (tt, record { fits = silent-fits })) $ pass0 ! $
       -- [_10; …; …; _0; …; the token; what the parameters own]
       move ! (23 ∷ []) $ fsplit ! $ move ! (1 ∷ []) $ drop ! $ use1 𝓛 (‵ OwnFile ⊛ ‵ OwnFile) ((shr_slice_copy 𝓛 (named 0) κ u8).twice s (v ∷ [])) $ split ! $
-      move ! (24 ∷ 0 ∷ []) $ use2 𝓛 (raw ((New 𝓛 mem' run).pre to_new)) goes_new $
+      move ! (24 ∷ 0 ∷ []) $ use2 𝓛 (raw ((New 𝓛 mem' run).requires to_new)) goes_new $
       -- [what new asks; the file's; _10; …]
       calls_at ! fm (New 𝓛 mem' run) known-new to_new (and_then ! (load ! (from ! (stop !)) (look ! 20 refl)) (no_more !)) (λ u.
       use1 𝓛 (later (some (λ (r : Rows). ((‵ (flft κ q) ⊛ ‵ ftrue) ⊛ ‵ ((R κ).own_val r (u ∷ []))) ⊛ raw (ensured 𝓛 new.ended (new.clauses 𝓛 mem' run) (κ, tt) (s, tt) tt r)))) (id⊢ 𝓤 _) $ await ! tt $ pick ! (λ r.

@@ -12,13 +12,13 @@ from-count c = c.before.before.before.before
 slice-aggregate-run : tie.Need-slice-aggregate-run
 slice-aggregate-run c =
     let start = from-count c.before in
-    sym (part_length _ start.args.sizes start.pre.0.0 _ _ c.before.offset.ensures start.pre.1.0)
+    sym (part_length _ start.args.sizes start.requires.0.0 _ _ c.before.offset.ensures start.requires.1.0)
 
 run-requires : tie.Need-run-requires
 run-requires c κs =
     let count = c.before.before in
     let start = from-count count in
-    (part_measures _ start.args.sizes start.pre.0.0 _ _ count.offset.ensures start.pre.1.0 start.pre.0.1, start.pre.1.1)
+    (part_measures _ start.args.sizes start.requires.0.0 _ _ count.offset.ensures start.requires.1.0 start.requires.0.1, start.requires.1.1)
 
 pub run_and_tell_spec : {M : Type 1} → statement M
 run_and_tell_spec =

@@ -29,13 +29,13 @@ ran c = c.before.before.before.before.before.before
 slice-aggregate-run : tie.Need-slice-aggregate-run
 slice-aggregate-run c =
     let start = from-count c.before in
-    sym (part_length _ start.args.sizes start.pre.0.0 _ _ c.before.offset.ensures start.pre.1.0)
+    sym (part_length _ start.args.sizes start.requires.0.0 _ _ c.before.offset.ensures start.requires.1.0)
 
 run-requires : tie.Need-run-requires
 run-requires c κs =
     let count = c.before.before in
     let start = from-count count in
-    (part_measures _ start.args.sizes start.pre.0.0 _ _ count.offset.ensures start.pre.1.0 start.pre.0.1, start.pre.1.1)
+    (part_measures _ start.args.sizes start.requires.0.0 _ _ count.offset.ensures start.requires.1.0 start.requires.0.1, start.requires.1.1)
 
 -- the line may be told, since the run has finished
 told-requires : tie.Need-told-requires
@@ -47,7 +47,7 @@ slice-aggregate-cells c =
     let count = counted run in
     let start = from-count count in
     let cells = start.args.cells.now in
-    let fits = part_fits _ start.args.sizes start.pre.0.0 cells count.offset.result count.offset.ensures start.pre.1.0 in
+    let fits = part_fits _ start.args.sizes start.requires.0.0 cells count.offset.result count.offset.ensures start.requires.1.0 in
     sym (length-take-le _ _ (back_fits cells run.run.last.1.1.1.0 count.offset.result fits run.run.kept.1.1.1.0))
 
 pub run_and_tell_spec : {M : Type 1} → statement M

@@ -32,8 +32,8 @@ operate-requires : tie.Need-operate-requires
 operate-requires c κs =
     let start = past-waits c.before.before in
     let a = start.args in
-    let fits = start.pre.0.0 in
-    let at = at_operation a.row.now a.stage a.index c.before.if2.true start.pre.0.1 in
+    let fits = start.requires.0.0 in
+    let at = at_operation a.row.now a.stage a.index c.before.if2.true start.requires.0.1 in
     rw c.before.before.offset.ensures (
       (fits.size, omega (arith, at, fits.few-operations)),
       (fits.writes-cells a.index at, fits.reads-cells a.index at),
@@ -47,7 +47,7 @@ returns-2 c =
     let a = start.args in
     let at = test.before.offset in
     let operation = ap (λ (i : ℕ). operated (effect a.version) (operation_at a.row.now i) a.cells.now) at.ensures in
-    made a.version a.row.now a.w a.number a.index (lent start) start.pre.1.0 a.stage done.new.1.1.1.0
+    made a.version a.row.now a.w a.number a.index (lent start) start.requires.1.0 a.stage done.new.1.1.1.0
     test.if2.true
     (done.ensures ∙ operation)
 
@@ -73,7 +73,7 @@ access-index : (c : tie.Else2) → (past-operations c).args.index < get_or (past
 access-index c =
     let start = past-operations c in
     let a = start.args in
-    at_access a.row.now a.stage a.index c.if2.false start.pre.0.1
+    at_access a.row.now a.stage a.index c.if2.false start.requires.0.1
 
 -- the cell that is read is the access's, and it has a counter
 cell-is : (c : tie.After-index)
@@ -83,19 +83,19 @@ cell-is c = rw c.before.before.before.offset.ensures at c.index.ensures.0
 within : (c : tie.After-index) → c.index.result < most_cells
 within c =
     let start = past-cell c in
-    rw (cell-is c) (start.pre.0.0.access-cells start.args.index (access-index c.before.before))
+    rw (cell-is c) (start.requires.0.0.access-cells start.args.index (access-index c.before.before))
 
 -- so the step is one at that access
 at-cell : (c : tie.After-index)
     → AtAccess (past-cell c).args.row.now (past-cell c).args.w (past-cell c).args.index c.index.result (lent (past-cell c))
 at-cell c =
     let start = past-cell c in
-    record { shape = start.pre.1.0; worker = start.pre.0.2; within = within c; here = cell-is c }
+    record { shape = start.requires.1.0; worker = start.requires.0.2; within = within c; here = cell-is c }
 
 shared-slice-read-index : tie.Need-shared-slice-read-index
 shared-slice-read-index c =
     let start = past-operations c.before in
-    omega (arith, access-index c.before, start.pre.0.0.size, start.pre.0.0.few-accesses)
+    omega (arith, access-index c.before, start.requires.0.0.size, start.requires.0.0.few-accesses)
 
 index-1-last : tie.Need-bounds-1-last
 index-1-last c = within c
@@ -111,7 +111,7 @@ note-requires c κs =
     let read = cell_at c.before.before in
     let start = past-cell read in
     let a = start.args in
-    (start.pre.0.2, within read, omega (arith, start.pre.1.1.private-reads a.w read.index.result))
+    (start.requires.0.2, within read, omega (arith, start.requires.1.1.private-reads a.w read.index.result))
 
 returns-3 : tie.Need-returns-3
 returns-3 c =
@@ -124,14 +124,14 @@ is-write-requires : tie.Need-is-write-requires
 is-write-requires c κs =
     let start = past-post c in
     let other = (cell_at c.before).before.before in
-    rw other.before.offset.ensures (start.pre.0.0.size, omega (arith, access-index other, start.pre.0.0.few-accesses))
+    rw other.before.offset.ensures (start.requires.0.0.size, omega (arith, access-index other, start.requires.0.0.few-accesses))
 
 -- the stage is 3 where it is none of the others
 third : (c : tie.Else3) → (past-post c).args.stage ≡ 3
 third c =
     let start = past-post c in
     let a = start.args in
-    omega (arith, five_stages a.row.now a.stage a.index start.pre.0.1, (cell_at c.before).before.before.if2.false)
+    omega (arith, five_stages a.row.now a.stage a.index start.requires.0.1, (cell_at c.before).before.before.if2.false)
 
 -- the mode that is read is the access's
 mode-is : (c : tie.After-is-write)
@@ -152,7 +152,7 @@ returns-4 c =
 add-t26 : tie.Need-overflow-add-t26
 add-t26 c =
     let read = cell-ended c.before in
-    omega (arith, (past-cell read).pre.1.1.shared-reads read.index.result)
+    omega (arith, (past-cell read).requires.1.1.shared-reads read.index.result)
 
 element-set-from-shared-3 : tie.Need-element-set-from-shared-3
 element-set-from-shared-3 c = within (cell-ended c.before)
@@ -162,7 +162,7 @@ note-requires-2 c κs =
     let read = cell-ended c.before.before in
     let start = past-cell read in
     let a = start.args in
-    (start.pre.0.2, within read, omega (arith, start.pre.1.1.private-reads a.w read.index.result))
+    (start.requires.0.2, within read, omega (arith, start.requires.1.1.private-reads a.w read.index.result))
 
 returns-5 : tie.Need-returns-5
 returns-5 c =

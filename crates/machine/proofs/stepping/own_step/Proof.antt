@@ -50,7 +50,7 @@ held-requires : tie.Need-held-requires
 held-requires c κs =
     let start = from_place c.before.before in
     let a = start.args in
-    ((start.pre.0.0.size, start.pre.0.1), λ wait. access-at start (λ two. omega arith))
+    ((start.requires.0.0.size, start.requires.0.1), λ wait. access-at start (λ two. omega arith))
 
 enum_told : tie.Need-enum-told
 enum_told c = search rules
@@ -60,15 +60,15 @@ next-requires c κs =
     let start = from-held (held_at (advances-at c.before.before)) in
     let a = start.args in
     let kept = lent start in
-    let stands = start.pre.1.0 in
-    let fits = start.pre.0.0 in (
+    let stands = start.requires.1.0 in
+    let fits = start.requires.0.0 in (
       (
         fits.size,
-        start.pre.0.3,
+        start.requires.0.3,
         five_stages a.row.now (stage_at kept a.w) (index_at kept a.w) stands,
         small_index a.row.now (length a.cells.now) (stage_at kept a.w) (index_at kept a.w) fits stands,
       ),
-      (λ other. (access-at start other).0, start.pre.1.1.0),
+      (λ other. (access-at start other).0, start.requires.1.1.0),
     )
 
 returns : tie.Need-returns
@@ -90,14 +90,14 @@ returns c =
     held.ensures
     changed.ensures
     c.next.ensures
-    (omega (arith, start.pre.0.2))
+    (omega (arith, start.requires.0.2))
 
 returns-2 : tie.Need-returns-2
 returns-2 c =
     let start = from-held c.before in
     let a = start.args in
     let held = c.before.held in
-    own_step_held a.version a.row.now a.w (lent start) (outcome_of held.result) start.pre.1.1.1.0 held.ensures
+    own_step_held a.version a.row.now a.w (lent start) (outcome_of held.result) start.requires.1.1.1.0 held.ensures
     (stays held.result c.match.keys2)
 
 pub own_step_spec : {M : Type 1} → statement M

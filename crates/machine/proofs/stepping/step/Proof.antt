@@ -49,13 +49,13 @@ row_of c = row_at (with-tasks c).args.file.now (passed-by c + 1)
 row_fits : (c : tie.Else1) → RowFits (row_of c) (length (with-tasks c).args.cells.now)
 row_fits c =
     let start = with-tasks c in
-    start.pre.0.0.ready.rows (passed-by c + 1) (omega arith) (omega (arith, c.if1.false))
+    start.requires.0.0.ready.rows (passed-by c + 1) (omega arith) (omega (arith, c.if1.false))
 
 -- the number that the worker's place has is where that row starts
 from_is : (c : tie.After-offset) → c.offset.result ≡ row_start (passed-by (left_at c) + 1)
 from_is c =
     let start = from_place c in
-    c.offset.ensures ∙ (start.pre.0.0.standing.placed start.args.w start.pre.0.1).starts
+    c.offset.ensures ∙ (start.requires.0.0.standing.placed start.args.w start.requires.0.1).starts
 
 -- the row ends within the file
 within : (c : tie.After-offset) → c.offset.result + 48 ≤ length (from_place c).args.file.now
@@ -84,14 +84,14 @@ register-requires c κs =
     let a = start.args in
     let fits = row_fits (left_at from) in
     rw (from_is from) (
-      (fits.size, fits.few-accesses, start.pre.0.1),
-      (fits.access-cells, start.pre.1.private-reads a.w),
+      (fits.size, fits.few-accesses, start.requires.0.1),
+      (fits.access-cells, start.requires.1.private-reads a.w),
     )
 
 next-task-requires : tie.Need-next-task-requires
 next-task-requires c κs =
     let from = placed c.before.before.before in
-    omega (arith, (from_place from).pre.0.0.ready.few-tasks, (left_at from).if1.left)
+    omega (arith, (from_place from).requires.0.0.ready.few-tasks, (left_at from).if1.left)
 
 returns-2 : tie.Need-returns-2
 returns-2 c =
@@ -104,7 +104,7 @@ returns-2 c =
     let noted_in : List ℕ → List (List (List ℕ)) =
     λ row. noted_all a.private.now a.w (passed-by (left_at from) + 1) (task_of row).accesses
     in
-    step_other a.file.now a.version a.tasks a.w (lent start) start.pre.0.0 start.pre.0.1 (left_at from).if1.left after
+    step_other a.file.now a.version a.tasks a.w (lent start) start.requires.0.0 start.requires.0.1 (left_at from).if1.left after
     c.next-task.result
     (λ same. other.if2.true (owner-is other.before ∙ same))
     (subst (λ (row : List ℕ). after ≡ noted_in row) (row_is from) noted.register.ensures)
@@ -115,12 +115,12 @@ own-step-requires c κs =
     let from = placed c.before.before.before.before.before in
     let start = from_place from in
     let a = start.args in
-    let sound = start.pre.0.0 in
-    let reads = start.pre.1 in
-    let here = sound.standing.placed a.w start.pre.0.1 in
+    let sound = start.requires.0.0 in
+    let reads = start.requires.1 in
+    let here = sound.standing.placed a.w start.requires.0.1 in
     let left = (left_at from).if1.left in
     rw (from_is from) (
-      (row_fits (left_at from), start.pre.0.1, sound.places-size, omega (arith, sound.ready.few-tasks, left)),
+      (row_fits (left_at from), start.requires.0.1, sound.places-size, omega (arith, sound.ready.few-tasks, left)),
       (
         here.stands left,
         (here.starts, (sound.shape, record { shared_reads = reads.shared-reads; private_reads = reads.private-reads })),
@@ -137,7 +137,7 @@ returns-3 c =
     let done = made.own-step in
     let why = outcome_of done.result in
     let after = arrays done.new.1.1.1.0 done.new.1.1.1.1.0 done.new.1.1.1.1.1.0 done.new.1.1.1.1.1.1.0 in
-    step_own a.file.now a.version a.tasks a.w (lent start) start.pre.0.0 start.pre.0.1 (left_at from).if1.left why after
+    step_own a.file.now a.version a.tasks a.w (lent start) start.requires.0.0 start.requires.0.1 (left_at from).if1.left why after
     (sym (owner-is own.before) ∙ own.if2.false)
     (subst (λ (row : List ℕ). OwnStep a.version row a.w (lent start) why after) (row_is from) done.ensures)
 

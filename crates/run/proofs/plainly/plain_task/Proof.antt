@@ -29,7 +29,7 @@ operate-requires c κs =
     let start = from-loop head in
     let a = start.args in
     let inv = head.loop.invariant in
-    can_operate a.row.now a.cells.now head.loop.cells head.loop.i _ start.pre c.before.loop-test.true inv.1 inv.2
+    can_operate a.row.now a.cells.now head.loop.cells head.loop.i _ start.requires c.before.loop-test.true inv.1 inv.2
 
 loop-again : tie.Need-loop-preserved invariant-loop decreases-loop
 unfolding task_of

@@ -39,7 +39,7 @@ plain-task-requires c κs =
     let start = from-loop head in
     let a = start.args in
     let l = head.loop in
-    row_fits a.file.now a.cells.now l.cells a.tasks l.done _ start.pre placed.before.loop-test.true placed.start.ensures l.inv.1
+    row_fits a.file.now a.cells.now l.cells a.tasks l.done _ start.requires placed.before.loop-test.true placed.start.ensures l.invariant.1
 
 loop-again : tie.Need-loop-preserved invariant-loop decreases-loop
 loop-again c =
@@ -51,7 +51,7 @@ loop-again c =
     let from = placed.start in (
       search rules,
       search rules,
-      task_next (effect a.version) a.tasks (λ i. task_of (row_at a.file.now (i + 1))) l.done _ l.cells placed.before.loop-test.true l.inv.2
+      task_next (effect a.version) a.tasks (λ i. task_of (row_at a.file.now (i + 1))) l.done _ l.cells placed.before.loop-test.true l.invariant.2
           ∙ ap (after_tasks (effect a.version) (drop (l.done + 1) (tasks_in a.file.now a.tasks)))
           (sym (made.plain-task.ensures ∙ ap (λ (row : List ℕ). after_operations (effect a.version) (task_of row).operations l.cells) (row_there a.file.now from.result (l.done + 1) from.ensures))),
     )

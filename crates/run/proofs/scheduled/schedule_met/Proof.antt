@@ -51,14 +51,14 @@ returns c =
     let head = head_of c.before in
     let a = (from-loop head).args in
     let loop = head.loop in
-    refused loop.inv (search rules) (no_worker a.schedule.now a.workers loop.i (omega (arith, byte-is c.before))) (λ e. omega arith)
+    refused loop.invariant (search rules) (no_worker a.schedule.now a.workers loop.i (omega (arith, byte-is c.before))) (λ e. omega arith)
 
 loop-again : tie.Need-loop-preserved invariant-loop decreases-loop
 loop-again c =
     let head = head_of c.before in
     let a = (from-loop head).args in
     let loop = head.loop in
-    passed loop.inv (search rules) (some_worker a.schedule.now a.workers loop.i (omega (arith, byte-is c.before))) refl
+    passed loop.invariant (search rules) (some_worker a.schedule.now a.workers loop.i (omega (arith, byte-is c.before))) refl
 
 returns-2 : tie.Need-returns-2 invariant-loop decreases-loop
 returns-2 c = done c.before.before.loop.invariant (search rules)

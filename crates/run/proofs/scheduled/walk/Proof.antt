@@ -59,7 +59,7 @@ step-requires c κs =
     let head = head_of named in
     let start = from-loop head in
     let a = start.args in
-    step_ready a.file.now a.version a.tasks head.loop.inv.2 named.before.before.loop-test.taken a.workers _ start.pre.0.1 start.pre.0.2 start.pre.1
+    step_ready a.file.now a.version a.tasks head.loop.invariant.2 named.before.before.loop-test.taken a.workers _ start.requires.0.1 start.requires.0.2 start.requires.1
     named.index.ensures.0
 
 note-requires : tie.Need-note-requires invariant-loop decreases-loop
@@ -69,10 +69,10 @@ note-requires c κs =
     let head = head_of named in
     let start = from-loop head in
     let a = start.args in
-    let walking = head.loop.inv.2 in
+    let walking = head.loop.invariant.2 in
     let more = named.before.before.loop-test.taken in (
-      (step_ready a.file.now a.version a.tasks walking more a.workers _ start.pre.0.1 start.pre.0.2 start.pre.1 named.index.ensures.0).0.1,
-      note_ready a.file.now a.version a.tasks walking more (outcome_of step.step.result) start.pre.0.2,
+      (step_ready a.file.now a.version a.tasks walking more a.workers _ start.requires.0.1 start.requires.0.2 start.requires.1 named.index.ensures.0).0.1,
+      note_ready a.file.now a.version a.tasks walking more (outcome_of step.step.result) start.requires.0.2,
     )
 
 loop-again : tie.Need-loop-preserved invariant-loop decreases-loop
@@ -84,7 +84,7 @@ loop-again c =
     let noted = c.note.ensures in (
       search rules,
       search rules,
-      stepped_on a.file.now a.version a.tasks head.loop.inv.2 named.before.before.loop-test.taken named.index.result named.index.ensures.0 (after step) (outcome_of step.step.result) step.step.ensures noted.0 noted.1.0 noted.1.1,
+      stepped_on a.file.now a.version a.tasks head.loop.invariant.2 named.before.before.loop-test.taken named.index.result named.index.ensures.0 (after step) (outcome_of step.step.result) step.step.ensures noted.0 noted.1.0 noted.1.1,
     )
 
 done-tasks-requires : tie.Need-done-tasks-requires invariant-loop decreases-loop
@@ -102,10 +102,10 @@ counts-fit c =
     omega (arith, inv.0, counts_add a.file.now a.version a.tasks inv.2)
 
 add-held : tie.Need-overflow-add-held invariant-loop decreases-loop
-add-held c = omega (arith, counts-fit c, (from-loop c.before).pre.0.2)
+add-held c = omega (arith, counts-fit c, (from-loop c.before).requires.0.2)
 
 add-held-2 : tie.Need-overflow-add-held-2 invariant-loop decreases-loop
-add-held-2 c = omega (arith, counts-fit c, (from-loop c.before).pre.0.2)
+add-held-2 c = omega (arith, counts-fit c, (from-loop c.before).requires.0.2)
 
 sub-advanced : tie.Need-overflow-sub-advanced invariant-loop decreases-loop
 sub-advanced c = omega (arith, counts-fit c)
@@ -115,7 +115,7 @@ returns c =
     let counted = c.before.before in
     let end = end_of c in
     let a = (from-loop end.before).args in
-    let inv = end.before.loop.inv in
+    let inv = end.before.loop.invariant in
     walk_ended a.file.now a.version a.tasks inv.2 inv.0 end.loop-test.left a.workers counted.done-tasks.result c.all_past.result counted.done-tasks.ensures c.all_past.ensures
 
 pub walk_spec : {M : Type 1} → statement M

@@ -42,7 +42,7 @@ owner c =
     let head = head_of from in
     let start = from-loop head in
     let a = start.args in
-    owner_read a.file.now a.tasks a.cells head.loop.index from.start.result c.index.result start.pre.0
+    owner_read a.file.now a.tasks a.cells head.loop.index from.start.result c.index.result start.requires.0
     from.before.loop-test.taken
     from.start.ensures
     c.index.ensures.0
@@ -63,12 +63,12 @@ loop-again c =
     (λ w. (
       omega arith,
       search rules,
-      one_done a.file.now a.tasks a.places.now l.index read.index.result l.done c.if1.done _ more (owner read).0 l.inv.2 w.0.taken (omega arith),
+      one_done a.file.now a.tasks a.places.now l.index read.index.result l.done c.if1.done _ more (owner read).0 l.invariant.2 w.0.taken (omega arith),
     ))
     (λ w. (
       omega arith,
       search rules,
-      one_left a.file.now a.tasks a.places.now l.index read.index.result l.done c.if1.done _ more (owner read).0 l.inv.2 w.0.left (omega arith),
+      one_left a.file.now a.tasks a.places.now l.index read.index.result l.done c.if1.done _ more (owner read).0 l.invariant.2 w.0.left (omega arith),
     ))
     c.if1.branch
 
