@@ -9,7 +9,7 @@ ghost use Rattle.layout.specs.Block.{letters_sound, check_sound, version_sound, 
 pub const LETTERS: [u8; 4] = *b"SFLW";
 
 // The numbers of tasks, workers and cells that a block states.
-#[derive(Drop)]
+#[derive(Clone, Copy)]
 pub struct Sizes {
     pub tasks: u32,
     pub workers: u32,

@@ -15,7 +15,7 @@ pub(crate) fn is_digit(byte: u8) -> bool {
 }
 
 // A number that is read digit by digit: the sum before the last plus, and the digits since. Both stay below 2^32.
-#[derive(Drop)]
+#[derive(Clone, Copy)]
 struct Reading {
     sum: u64,
     last: u64,

@@ -11,7 +11,7 @@ const FILE: usize = Flow::MAX_BYTES + 512;
 
 // What the words so far have set: the bytes of rows, the version, the workers and cells, the bytes that are lent, the file's length, and
 // whether a file is made.
-#[derive(Drop)]
+#[derive(Clone, Copy)]
 pub(crate) struct Setting {
     pub(crate) rows: usize,
     pub(crate) version: u32,

@@ -10,14 +10,14 @@ ghost use Rattle.file.specs.Answers.{check_refused};
 pub use checking::{check, first_refusal};
 
 // A number and a place; success is 0, place 0.
-#[derive(Drop)]
+#[derive(Clone, Copy)]
 pub struct Answer {
     pub number: u32,
     pub place: u32,
 }
 
 // What the check of a file answers: a refusal, or the flow's sizes and its version.
-#[derive(Drop)]
+#[derive(Clone, Copy)]
 pub struct CheckAnswer {
     pub number: u32,
     pub place: u32,

@@ -51,7 +51,8 @@ fn rows(part: &mut [u8], rows: &[u8])
     requires { (length part.old ≡ 494) × (length rows.now ≤ 480) }
     ensures { part.new ≡ padded 494 rows.now }
 {
-    let used = bytes::copy(rows, part);
+    let used = rows.len();
+    part[..used].copy_from_slice(rows);
     octets::clear(&mut part[used..]);
 }
 
@@ -73,7 +74,7 @@ pub fn fill(part: &mut [u8], all: &[u8], index: u32, flow: Flow)
     ensures { part.new ≡ block_of flow.version flow.tasks flow.workers flow.cells all.now index }
 {
     let first = head(index, flow);
-    bytes::copy(&first, part);
+    part[..16].copy_from_slice(&first);
     let from = octets::offset(480 * index);
     let to = from + octets::offset(48 * flow::rows_in(flow.tasks, index));
     rows(&mut part[16..510], &all[from..to]);

@@ -6,7 +6,7 @@ ghost use Rattle.std.specs.Prelude.{◌≡◌, ◌+◌, ◌≤◌, ◌<◌, leng
 ghost use Rattle.layout.specs.Fletcher.{after, fletcher, sums as sumsAt};
 
 // The two sums.
-#[derive(Drop)]
+#[derive(Clone, Copy)]
 pub struct Sums {
     pub a: u32,
     pub b: u32,

@@ -8,7 +8,7 @@ ghost use Rattle.layout.specs.Block.{blocks_for, rows_in};
 ghost use Rattle.flow.specs.Made.{stated_by, asked_for};
 
 // A flow's version, and its sizes: the numbers of tasks, workers and cells.
-#[derive(Drop)]
+#[derive(Clone, Copy)]
 pub struct Flow {
     pub version: u32,
     pub tasks: u32,
@@ -17,7 +17,7 @@ pub struct Flow {
 }
 
 // What the constructor answers.
-#[derive(Drop)]
+#[derive(Clone, Copy)]
 pub enum Made {
     Within(Flow),
     OtherVersion,

@@ -4,7 +4,7 @@
 ghost use Rattle.longest.specs.Promises.{WorstCasePromise};
 
 // A refusal, or the flow's total and the worst case: the most stretches, the most steps, and the most of them that are held.
-#[derive(Drop)]
+#[derive(Clone, Copy)]
 pub struct Longest {
     pub number: u32,
     pub place: u32,

@@ -4,7 +4,7 @@
 pub mod stepping;
 
 // What became of a step: it advanced, or it was held and why.
-#[derive(Drop)]
+#[derive(Clone, Copy)]
 pub enum Outcome {
     Advanced,
     PastLast,

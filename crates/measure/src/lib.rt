@@ -15,7 +15,7 @@ use flow::Flow;
 pub use turns::in_turn;
 
 // What is measured: a refusal, or the flow's sizes, its total and its version.
-#[derive(Drop)]
+#[derive(Clone, Copy)]
 pub struct Measured {
     pub number: u32,
     pub place: u32,

@@ -11,7 +11,7 @@ ghost use Rattle.reader.specs.Answers.{read_refused};
 ghost use Rattle.reader.specs.Promises.{ReadPromise};
 
 // What the reader answers: a refusal, or the bytes written to the lent rows, the flow's sizes and its version.
-#[derive(Drop)]
+#[derive(Clone, Copy)]
 pub struct ReadAnswer {
     pub number: u32,
     pub place: u32,
@@ -48,7 +48,7 @@ fn copy_rows(file: &[u8], rows: &mut [u8], tasks: u32)
     while done < tasks {
         let from = row::start(done + 1);
         let to = octets::offset(48 * done);
-        bytes::copy(&file[from..from + 48], &mut rows[to..to + 48]);
+        rows[to..to + 48].copy_from_slice(&file[from..from + 48]);
         done += 1;
     }
 }

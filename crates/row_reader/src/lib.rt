@@ -9,7 +9,7 @@ use file::Answer;
 use flow::Flow;
 
 // What a call finds.
-#[derive(Drop)]
+#[derive(Clone, Copy)]
 pub enum Found {
     Row,
     End,
@@ -17,7 +17,7 @@ pub enum Found {
 }
 
 // What a call answers. The row is all zero where none is given.
-#[derive(Drop)]
+#[derive(Clone, Copy)]
 pub struct Fetched {
     pub found: Found,
     pub row: [u8; 48],
@@ -45,7 +45,7 @@ pub fn fetch(file: &[u8], task: u32) -> Fetched
     }
     if (1 <= task) & (task <= met.tasks) {
         let from = row::start(task);
-        bytes::copy(&file[from..from + 48], &mut row);
+        row.copy_from_slice(&file[from..from + 48]);
         let found = Found::Row;
         return Fetched { found, row };
     }

@@ -14,7 +14,7 @@ pub use plainly::plain;
 pub use scheduled::run;
 
 // What the plain run answers.
-#[derive(Drop)]
+#[derive(Clone, Copy)]
 pub struct PlainAnswer {
     pub number: u32,
     pub place: u32,
@@ -22,7 +22,7 @@ pub struct PlainAnswer {
 
 // What the stepped run answers: a refusal, or the steps that advanced and were held, the done tasks, and 1 where it has finished; of the
 // held steps, how many for each reason; and by worker the reason and the cell of its latest held step, 0 and 0 where it had none.
-#[derive(Drop)]
+#[derive(Clone, Copy)]
 pub struct RunAnswer {
     pub number: u32,
     pub place: u32,

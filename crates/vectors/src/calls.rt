@@ -7,7 +7,7 @@ use crate::{head, numbers};
 
 const MARK: u32 = 0xAAAAAAAA;
 
-#[derive(Drop)]
+#[derive(Clone, Copy)]
 pub(crate) struct Answer {
     // What the call returned, which is the answer's first word too.
     pub(crate) returned: u32,

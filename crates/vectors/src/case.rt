@@ -3,7 +3,7 @@ use crate::calls::Answer;
 use crate::head::Head;
 use crate::{calls, head, stream};
 
-#[derive(Drop)]
+#[derive(Clone, Copy)]
 pub(crate) enum Outcome {
     Held,
     Differed,

@@ -16,7 +16,7 @@ const SIZE: usize = 132;
 // The largest number that a call answers.
 pub(crate) const MOST: usize = 22;
 
-#[derive(Drop)]
+#[derive(Clone, Copy)]
 pub(crate) struct Head {
     // Whether the data had a whole head.
     pub(crate) whole: bool,

@@ -6,7 +6,7 @@ use crate::{head, say};
 // A count for each number up to the largest.
 pub(crate) const NUMBERS: usize = head::MOST + 1;
 
-#[derive(Drop)]
+#[derive(Clone, Copy)]
 pub(crate) struct Tally {
     // By the call's number; none has 0.
     calls: [u32; 6],

@@ -16,7 +16,7 @@ use file::Answer;
 use flow::{Flow, Made};
 
 // What the writer answers: a refusal, or the bytes written to the lent output.
-#[derive(Drop)]
+#[derive(Clone, Copy)]
 pub struct WriteAnswer {
     pub number: u32,
     pub place: u32,

@@ -15,27 +15,27 @@ abbrev number : List ℕ → ℕ → ℕ → Sizes → ℕ → ℕ
 number file blocks version first index =
     block_refusal blocks version first.tasks first.workers first.cells index (block_at file index)
 
-abbrev invariant-loop : tie.invariant-loop
+abbrev invariant-loop : tie.invariant-loop-index
 invariant-loop file blocks version first index₀ index = Left (number file blocks version first) 0 blocks index
 
-abbrev decreases-loop : tie.decreases-loop
+abbrev decreases-loop : tie.decreases-loop-index
 decreases-loop file blocks version first index₀ index = blocks - index
 
-loop-holds : tie.Need-loop-init invariant-loop decreases-loop
+loop-holds : tie.Need-loop-index-init invariant-loop decreases-loop
 loop-holds c = begun _ 0 _
 
-returns : tie.Need-returns invariant-loop decreases-loop
+returns : tie.Need-returns-then-number-ne0 invariant-loop decreases-loop
 returns c =
-    refused c.before.before.before.before.before.loop.invariant (search rules)
-    (rw c.before.before.before.offset.ensures at c.before.refusal.ensures) c.if1.true
+    refused c.before.before.before.before.before.loop-index.invariant (search rules)
+    (rw c.before.before.before.offset-from.ensures at c.before.refusal-number.ensures) c.if-number-ne0.true
 
-loop-again : tie.Need-loop-preserved invariant-loop decreases-loop
+loop-again : tie.Need-loop-index-preserved invariant-loop decreases-loop
 loop-again c =
-    passed c.before.before.before.before.before.loop.invariant (search rules)
-    (rw c.before.before.before.offset.ensures at c.before.refusal.ensures) c.if1.false
+    passed c.before.before.before.before.before.loop-index.invariant (search rules)
+    (rw c.before.before.before.offset-from.ensures at c.before.refusal-number.ensures) c.if-number-ne0.false
 
-returns-2 : tie.Need-returns-2 invariant-loop decreases-loop
-returns-2 c = done c.before.loop.invariant (search rules)
+returns-2 : tie.Need-returns invariant-loop decreases-loop
+returns-2 c = done c.before.loop-index.invariant (search rules)
 
 pub blocks_met_spec : {M : Type 1} → statement M
 blocks_met_spec =

@@ -8,26 +8,26 @@ use Rattle.file.proofs.Outcomes.{check_refused_lem, some_block, check_done}
 use Rattle.file.proofs.checking.check.Statement.{statement}
 use Rattle.file.proofs.checking.check.Tie as tie
 
-returns : tie.Need-returns
+returns : tie.Need-returns-then-met-ne0
 returns c =
-    let met = c.before.before.before.first-refusal in
-    check_refused_lem (refusal met.result.number met.result.place) c.before.if1.true _ _
+    let met = c.before.before.before.first_refusal-met in
+    check_refused_lem (refusal met.result.number met.result.place) c.before.if-met-ne0.true _ _
     (ap (λ (a : Answer). refusal a.number a.place) met.ensures) c.refused.ensures
 
 -- from here on, the file is accepted
-accepted : (c : tie.Else1) → (file_answer c.before.before.before.before.args.file.now).number ≡ 0
-accepted c = sym (ap (λ (a : Answer). a.number) c.before.before.first-refusal.ensures) ∙ c.if1.false
+accepted : (c : tie.Else-met-ne0) → (file_answer c.before.before.before.before.args.file.now).number ≡ 0
+accepted c = sym (ap (λ (a : Answer). a.number) c.before.before.first_refusal-met.ensures) ∙ c.if-met-ne0.false
 
-version-of-requires : tie.Need-version-of-requires
+version-of-requires : tie.Need-version_of-version-requires
 version-of-requires c κs = some_block _ (accepted c)
 
-sizes-of-requires : tie.Need-sizes-of-requires
+sizes-of-requires : tie.Need-sizes_of-sizes-requires
 sizes-of-requires c κs = some_block _ (accepted c.before)
 
-returns-2 : tie.Need-returns-2
+returns-2 : tie.Need-returns
 returns-2 c =
-    let version = c.before.version_of in
-    check_done _ (accepted c.before.before) version.result c.sizes-of.result version.ensures c.sizes-of.ensures.0
+    let version = c.before.version_of-version in
+    check_done _ (accepted c.before.before) version.result c.sizes_of-sizes.result version.ensures c.sizes_of-sizes.ensures.0
 
 pub check_spec : {M : Type 1} → statement M
 check_spec =
