@@ -74,7 +74,7 @@ pub fn fill(part: &mut [u8], all: &[u8], index: u32, flow: Flow)
     ensures { part.new ≡ block_of flow.version flow.tasks flow.workers flow.cells all.now index }
 {
     let first = head(index, flow);
-    part[..16].copy_from_slice(&first);
+    part[0..16].copy_from_slice(&first);
     let from = octets::offset(480 * index);
     let to = from + octets::offset(48 * flow::rows_in(flow.tasks, index));
     rows(&mut part[16..510], &all[from..to]);

@@ -1,17 +1,37 @@
-use Rattle.std.proofs.Common.{rules, ◌≡◌, ◌+◌, ◌*◌, ◌≤◌, ◌<◌, length, take, ℕ, ◌-◌, ◌/◌, ◌%◌, Bool, true, false, nat_eq, nat_lt, List, [], ◌∷◌, ◌++◌, slice_index_or, slice_set, bit_and, bit_or, Fits, w8, w32, w64, Bor, MutBor}
-use Rattle.layout.specs.Bytes.{padded}
-use Rattle.layout.specs.Flow.{most_tasks, most_workers, most_cells, most_blocks}
-use Rattle.layout.specs.Block.{blocks_for, head_of, sealed, block_of}
+-- `filler::fill` meets its contract: head, rows and check, each in its part, are the block.
+use Rattle.std.proofs.Common.{◌≡◌, ◌++◌, ◌+◌, ◌*◌, ℕ, List, ap, sym, ◌∙◌, take, drop, length, length-take, arith, refl}
+use lib.Seq.{take_all}
+use Rattle.filler.proofs.Parts.{filled}
 use Rattle.filler.proofs.fill.Goals as goal
 
--- src/lib.rt:77:5
-pub slice_bounds-copy_from_slice-end-2 : goal.slice_bounds-copy_from_slice-end-2
-slice_bounds-copy_from_slice-end-2 c = ?
-
--- src/lib.rt:77:5
 pub copy_from_slice-requires : goal.copy_from_slice-requires
-copy_from_slice-requires c = ?
+copy_from_slice-requires c = rw c.head-first.ensures (omega (arith, length-take {A = ℕ}, c.requires.part_is_block))
 
--- src/lib.rt:70:1
+-- the head is copied to the front, and the rows and the check are laid after it
 pub returns : goal.returns
-returns c = ?
+returns c =
+    let a = c.args in
+    let head = c.head-first.result in
+    let laid : c.copy_from_slice.new.self ≡ take (length head) head = c.copy_from_slice.ensures.after ∙ sym (take_all _ head (omega arith)) in
+    filled
+    a.flow.version
+    a.flow.tasks
+    a.flow.workers
+    a.flow.cells
+    a.index
+    c.offset-from.result
+    (c.offset-from.result + c.offset.result)
+    a.all.now
+    a.part.now
+    head
+    _
+    c.rows.new.part
+    c.seal.new.part
+    c.requires.part_is_block
+    c.head-first.ensures
+    (ap (λ (t : List ℕ). t ++ drop 16 a.part.now) laid
+    ∙ ap (λ (k : ℕ). take (length head) head ++ drop k a.part.now) (sym (ap length c.head-first.ensures)))
+    c.offset-from.ensures
+    (ap (λ (k : ℕ). c.offset-from.result + k) (c.offset.ensures ∙ ap (λ (k : ℕ). 48 * k) c.rows_in.ensures))
+    c.rows.ensures
+    c.seal.ensures

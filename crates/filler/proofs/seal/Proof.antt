@@ -9,19 +9,19 @@ use Rattle.filler.proofs.Parts.{below_255, stored_two}
 use Rattle.filler.proofs.seal.Statement.{statement}
 use Rattle.filler.proofs.seal.Tie as tie
 
-cast-part : tie.Need-overflow-cast-part
-cast-part c = below_255 _ _ c.before.sums-of.ensures.0 (fletcher_small _).a
+cast-part : tie.Need-overflow_cast-part
+cast-part c = below_255 _ _ c.before.sums_of-sums.ensures.0 (fletcher_small _).a
 
-cast-part-2 : tie.Need-overflow-cast-part-2
-cast-part-2 c = below_255 _ _ c.before.before.sums-of.ensures.1 (fletcher_small _).b
+cast-part-2 : tie.Need-overflow_cast-part-2
+cast-part-2 c = below_255 _ _ c.before.before.sums_of-sums.ensures.1 (fletcher_small _).b
 
 returns : tie.Need-returns
 returns c =
     let summed = c.before.before in
-    let start = summed.before.before.before.before in
+    let start = summed.before.before.before in
     let part = start.args.part.now in
     stored_two part 510 _ _ start.requires
-    ∙ ap₂ (λ (a b : ℕ). take 510 part ++ (a ∷ b ∷ [])) summed.sums-of.ensures.0 summed.sums-of.ensures.1
+    ∙ ap₂ (λ (a b : ℕ). take 510 part ++ (a ∷ b ∷ [])) summed.sums_of-sums.ensures.0 summed.sums_of-sums.ensures.1
 
 pub seal_spec : {M : Type 1} → statement M
 seal_spec =

@@ -14,31 +14,31 @@ use Rattle.writer.proofs.given_met.Tie as tie
 abbrev number : List ℕ → Flow → ℕ → ℕ
 number rows flow task = row_refusal (retired_in_writer flow.version) flow.workers flow.cells (row_of_task rows task)
 
-abbrev invariant-loop : tie.invariant-loop
+abbrev invariant-loop : tie.invariant-loop-task
 invariant-loop rows flow task₀ task = Left (number rows flow) 1 flow.tasks task
 
-abbrev decreases-loop : tie.decreases-loop
+abbrev decreases-loop : tie.decreases-loop-task
 decreases-loop rows flow task₀ task = flow.tasks + 1 - task
 
-loop-holds : tie.Need-loop-init invariant-loop decreases-loop
+loop-holds : tie.Need-loop-task-init invariant-loop decreases-loop
 loop-holds c = begun _ 1 _
 
 -- the head of the loop, as seen once a row's place is known
-abbrev head_of : tie.After-offset invariant-loop decreases-loop → tie.At-loop invariant-loop decreases-loop
+abbrev head_of : tie.After-offset-from invariant-loop decreases-loop → tie.At-loop-task invariant-loop decreases-loop
 head_of c = c.before.before.before
 
-returns : tie.Need-returns invariant-loop decreases-loop
+returns : tie.Need-returns-then-number-ne0 invariant-loop decreases-loop
 returns c =
     let placed = c.before.before.before in
-    refused (head_of placed).loop.invariant (search rules) (rw placed.offset.ensures at c.before.refusal.ensures) c.if2.true
+    refused (head_of placed).loop-task.invariant (search rules) (rw placed.offset-from.ensures at c.before.refusal-number.ensures) c.if-number-ne0.true
 
-loop-again : tie.Need-loop-preserved invariant-loop decreases-loop
+loop-again : tie.Need-loop-task-preserved invariant-loop decreases-loop
 loop-again c =
     let placed = c.before.before.before in
-    passed (head_of placed).loop.invariant (search rules) (rw placed.offset.ensures at c.before.refusal.ensures) c.if2.false
+    passed (head_of placed).loop-task.invariant (search rules) (rw placed.offset-from.ensures at c.before.refusal-number.ensures) c.if-number-ne0.false
 
-returns-2 : tie.Need-returns-2 invariant-loop decreases-loop
-returns-2 c = done c.before.before.loop.invariant (search rules)
+returns-2 : tie.Need-returns invariant-loop decreases-loop
+returns-2 c = done c.before.before.loop-task.invariant (search rules)
 
 pub given_met_spec : {M : Type 1} → statement M
 given_met_spec =
