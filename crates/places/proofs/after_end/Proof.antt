@@ -4,11 +4,11 @@ use borrow.Author.Tests.{lt-ltb, le-ltb}
 use Rattle.places.proofs.after_end.Statement.{statement}
 use Rattle.places.proofs.after_end.Tie as tie
 
-returns : tie.Need-returns
-returns c = rw (← c.before.wide.ensures.0, lt-ltb _ _ c.if1.true, ← c.before.before.before.before.requires.3)
+returns : tie.Need-returns-then-index-wide
+returns c = rw (← c.before.wide.ensures.0, lt-ltb _ _ c.if-index-wide.true, ← c.before.before.before.before.requires.3)
 
-returns-2 : tie.Need-returns-2
-returns-2 c = rw (← c.before.before.wide.ensures.0, le-ltb _ _ c.before.if1.false) c.next-task.ensures
+returns-2 : tie.Need-returns
+returns-2 c = rw (← c.before.before.wide.ensures.0, le-ltb _ _ c.before.if-index-wide.false) c.next_task.ensures
 
 pub after_end_spec : {M : Type 1} → statement M
 after_end_spec =

@@ -9,13 +9,13 @@ use Rattle.places.proofs.after_operation.Tie as tie
 abbrev start_of : tie.After-wide → tie.Start
 start_of c = c.before.before.before
 
-returns : tie.Need-returns
+returns : tie.Need-returns-then-index-wide
 unfolding next_place
-returns c = rw (← c.before.wide.ensures.0, lt-ltb _ _ c.if1.true, ← (start_of c.before).requires.2)
+returns c = rw (← c.before.wide.ensures.0, lt-ltb _ _ c.if-index-wide.true, ← (start_of c.before).requires.2)
 
-returns-2 : tie.Need-returns-2
+returns-2 : tie.Need-returns
 unfolding next_place
-returns-2 c = rw (← c.before.wide.ensures.0, le-ltb _ _ c.if1.false, ← (start_of c.before).requires.2)
+returns-2 c = rw (← c.before.wide.ensures.0, le-ltb _ _ c.if-index-wide.false, ← (start_of c.before).requires.2)
 
 pub after_operation_spec : {M : Type 1} → statement M
 after_operation_spec =
