@@ -48,27 +48,27 @@ returns-2 : tie.Need-returns-then-write
 unfolding next_place
 returns-2 c =
     let read = c.before.before in
-    rw (c.before.in-0.keys1, asked read, c.if-write.true, ← (from-test (tested read)).requires.1.1)
+    rw (c.before.in-0.is, asked read, c.if-write.true, ← (from-test (tested read)).requires.1.1)
 
 returns-3 : tie.Need-returns-else-write
 unfolding next_place
 returns-3 c =
-    rw (c.before.before.in-0.keys1, asked c.before.before.before, c.before.if-write.false) c.after_wait.ensures
+    rw (c.before.before.in-0.is, asked c.before.before.before, c.before.if-write.false) c.after_wait.ensures
 
 returns-4 : tie.Need-returns-in-1
 unfolding next_place
-returns-4 c = rw c.before.in-0.keys2 c.after_wait-in-1.ensures
+returns-4 c = rw c.before.in-1.is c.after_wait-in-1.ensures
 
 returns-5 : tie.Need-returns-then-write-2
 unfolding next_place
 returns-5 c =
     let read = c.before.before in
-    rw (c.before.in-0.keys3, asked read, c.if-write-2.true, ← (from-test (tested read)).requires.1.1)
+    rw (c.before.in-3.is, asked read, c.if-write-2.true, ← (from-test (tested read)).requires.1.1)
 
 returns-6 : tie.Need-returns-else-write-2
 unfolding next_place
 returns-6 c =
-    rw (c.before.before.in-0.keys3, asked c.before.before.before, c.before.if-write-2.false) c.after_end.ensures
+    rw (c.before.before.in-3.is, asked c.before.before.before, c.before.if-write-2.false) c.after_end.ensures
 
 returns-7 : tie.Need-returns-in_default
 unfolding next_place
