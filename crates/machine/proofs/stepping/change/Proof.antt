@@ -22,7 +22,7 @@ returns : tie.Need-returns-then-stage-lt2
 returns c =
     let start = c.before.before.before in
     let a = start.args in
-    waited a.version a.row.now a.w a.number a.index-cell (lent start) start.requires.1.0 a.stage c.if-stage-lt2.true
+    waited a.version a.row.now a.w a.number a.index (lent start) start.requires.1.0 a.stage c.if-stage-lt2.true
 
 -- where the function starts, as seen past the waits
 abbrev past-waits : tie.After-offset-at → tie.Start
@@ -33,10 +33,10 @@ operate-requires c κs =
     let start = past-waits c.before.before in
     let a = start.args in
     let fits = start.requires.0.0 in
-    let at = at_operation a.row.now a.stage a.index-cell c.before.if-stage-eq2.true start.requires.0.1 in
+    let at = at_operation a.row.now a.stage a.index c.before.if-stage-eq2.true start.requires.0.1 in
     rw c.before.before.offset-at.ensures (
-      (fits.size, omega (arith, at, fits.few-operations)),
-      (fits.writes-cells a.index-cell at, fits.reads-cells a.index-cell at),
+      (fits.size, omega (arith, at, fits.few_operations)),
+      (fits.writes_cells a.index at, fits.reads_cells a.index at),
     )
 
 returns-2 : tie.Need-returns-then-stage-eq2
@@ -46,8 +46,8 @@ returns-2 c =
     let start = past-waits test.before in
     let a = start.args in
     let at = test.before.offset-at in
-    let operation = ap (λ (i : ℕ). operated (effect a.version) (operation_at a.row.now i) a.cells-1.now) at.ensures in
-    made a.version a.row.now a.w a.number a.index-cell (lent start) start.requires.1.0 a.stage done.new.1.1.1.0
+    let operation = ap (λ (i : ℕ). operated (effect a.version) (operation_at a.row.now i) a.cells.now) at.ensures in
+    made a.version a.row.now a.w a.number a.index (lent start) start.requires.1.0 a.stage done.new.cells
     test.if-stage-eq2.true
     (done.ensures ∙ operation)
 
@@ -73,7 +73,7 @@ access-index : (c : tie.Else-stage-eq2) → (past-operations c).args.index < get
 access-index c =
     let start = past-operations c in
     let a = start.args in
-    at_access a.row.now a.stage a.index-cell c.if-stage-eq2.false start.requires.0.1
+    at_access a.row.now a.stage a.index c.if-stage-eq2.false start.requires.0.1
 
 -- the cell that is read is the access's, and it has a counter
 cell-is : (c : tie.After-index-cell)
@@ -83,7 +83,7 @@ cell-is c = rw c.before.before.before.offset-at.ensures at c.index-cell.ensures.
 within : (c : tie.After-index-cell) → c.index-cell.result < most_cells
 within c =
     let start = past-cell c in
-    rw (cell-is c) (start.requires.0.0.access-cells start.args.index (access-index c.before.before))
+    rw (cell-is c) (start.requires.0.0.access_cells start.args.index (access-index c.before.before))
 
 -- so the step is one at that access
 at-cell : (c : tie.After-index-cell)
@@ -95,12 +95,12 @@ at-cell c =
 shared-slice-read-index : tie.Need-bounds-row-at
 shared-slice-read-index c =
     let start = past-operations c.before in
-    omega (arith, access-index c.before, start.requires.0.0.size, start.requires.0.0.few-accesses)
+    omega (arith, access-index c.before, start.requires.0.0.size, start.requires.0.0.few_accesses)
 
-index-1-last : tie.Need-bounds-1-last
+index-1-last : tie.Need-bounds-shared-cell
 index-1-last c = within c
 
-index-1-reads : tie.Need-bounds-1-reads
+index-1-reads : tie.Need-bounds-shared-cell-else-stage-eq2
 index-1-reads c = within c.before
 
 element-set-from-shared : tie.Need-bounds-shared-cell-then-stage-eq4
@@ -111,27 +111,27 @@ note-requires c κs =
     let read = cell_at c.before.before in
     let start = past-cell read in
     let a = start.args in
-    (start.requires.0.2, within read, omega (arith, start.requires.1.1.private-reads a.w read.index-cell.result))
+    (start.requires.0.2, within read, omega (arith, start.requires.1.1.private_reads a.w read.index-cell.result))
 
 returns-3 : tie.Need-returns-then-stage-eq4
 returns-3 c =
     let post = c.before.before in
     let read = cell_at post.before in
     let start = past-cell read in
-    posted start.args.version start.args.number (at-cell read) start.args.stage c.note.new.0 post.if-stage-eq4.true c.note.ensures
+    posted start.args.version start.args.number (at-cell read) start.args.stage c.note.new.private post.if-stage-eq4.true c.note.ensures
 
 is-write-requires : tie.Need-is_write-requires
 is-write-requires c κs =
     let start = past-post c in
     let other = (cell_at c.before).before.before in
-    rw other.before.offset-at.ensures (start.requires.0.0.size, omega (arith, access-index other, start.requires.0.0.few-accesses))
+    rw other.before.offset-at.ensures (start.requires.0.0.size, omega (arith, access-index other, start.requires.0.0.few_accesses))
 
 -- the stage is 3 where it is none of the others
 third : (c : tie.Else-stage-eq4) → (past-post c).args.stage ≡ 3
 third c =
     let start = past-post c in
     let a = start.args in
-    omega (arith, five_stages a.row.now a.stage a.index-cell start.requires.0.1, (cell_at c.before).before.before.if-stage-eq2.false)
+    omega (arith, five_stages a.row.now a.stage a.index start.requires.0.1, (cell_at c.before).before.before.if-stage-eq2.false)
 
 -- the mode that is read is the access's
 mode-is : (c : tie.After-is_write)
@@ -152,7 +152,7 @@ returns-4 c =
 add-t26 : tie.Need-overflow_add-shared
 add-t26 c =
     let read = cell-ended c.before in
-    omega (arith, (past-cell read).requires.1.1.shared-reads read.index-cell.result)
+    omega (arith, (past-cell read).requires.1.1.shared_reads read.index-cell.result)
 
 element-set-from-shared-3 : tie.Need-bounds-shared-cell-2
 element-set-from-shared-3 c = within (cell-ended c.before)
@@ -162,14 +162,14 @@ note-requires-2 c κs =
     let read = cell-ended c.before.before in
     let start = past-cell read in
     let a = start.args in
-    (start.requires.0.2, within read, omega (arith, start.requires.1.1.private-reads a.w read.index-cell.result))
+    (start.requires.0.2, within read, omega (arith, start.requires.1.1.private_reads a.w read.index-cell.result))
 
 returns-5 : tie.Need-returns
 returns-5 c =
     let asked = c.before.before.before in
     let read = cell-ended asked in
     let start = past-cell read in
-    ended start.args.version start.args.number (at-cell read) start.args.stage c.note-2.new.0 (third asked.before)
+    ended start.args.version start.args.number (at-cell read) start.args.stage c.note-2.new.private (third asked.before)
     (mode-is asked ∙ c.before.before.if-is_write.false)
     c.note-2.ensures
 

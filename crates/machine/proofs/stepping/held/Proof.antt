@@ -31,7 +31,7 @@ advances m w row (suc (suc (suc zero))) index h = ends m w (writes (access_at ro
 advances m w row (suc (suc (suc (suc stage)))) index h = refl
 
 returns : tie.Need-returns-then-stage-ge2
-returns c = let a = c.before.before.args in advances _ a.w a.row.now a.stage a.index-cell c.if-stage-ge2.true
+returns c = let a = c.before.before.args in advances _ a.w a.row.now a.stage a.index c.if-stage-ge2.true
 
 -- where the function starts, as seen from a wait; and that wait, once the cell is read
 abbrev from-wait : tie.Else-stage-ge2 → tie.Start
@@ -63,10 +63,10 @@ within c = rw (cell-is c) (known (wait-of c)).1
 shared-slice-read-index : tie.Need-bounds-row-at
 shared-slice-read-index c = omega (arith, (known c.before.before).0)
 
-index-2-if3 : tie.Need-bounds-2-if3
+index-2-if3 : tie.Need-bounds-private-cell
 index-2-if3 c = within c.before
 
-index-1-if3-2 : tie.Need-bounds-1-if3-2
+index-1-if3-2 : tie.Need-bounds-shared-cell
 index-1-if3-2 c = within c.before.before
 
 returns-2 : tie.Need-returns-then-private-w
@@ -85,10 +85,10 @@ returns-3 c =
     let read = write-of tested in
     rw (tested.before.before.before.if-stage-eq0.true, ← cell-is read, ne_eqb _ _ tested.if-private-w.false, c.wide.ensures.0, read.index-cell.ensures.0)
 
-index-2-if4 : tie.Need-bounds-2-if4
+index-2-if4 : tie.Need-bounds-private-cell-else-stage-eq0
 index-2-if4 c = within c.before
 
-index-1-if4-2 : tie.Need-bounds-1-if4-2
+index-1-if4-2 : tie.Need-bounds-shared-cell-else-stage-eq0
 index-1-if4-2 c = within c.before.before
 
 returns-4 : tie.Need-returns-then-private-w-2

@@ -61,7 +61,7 @@ from_is c =
 within : (c : tie.After-offset-from) → c.offset-from.result + 48 ≤ length (from_place c).args.file.now
 within c =
     let ready = (from_place c).requires.0.0.ready in
-    omega (arith, from_is c, ready.size, ready.few-tasks, (left_at c).if-tasks-passed.false)
+    omega (arith, from_is c, ready.size, ready.few_tasks, (left_at c).if-tasks-passed.false)
 
 -- the part that is read is that row
 row_is : (c : tie.After-offset-from)
@@ -72,7 +72,7 @@ owner-is : (c : tie.After-index) → c.index.result ≡ get_or (row_of (left_at 
 owner-is c = c.index.ensures.0 ∙ ap (λ (row : List ℕ). get_or row 0 0) (row_is (placed c))
 
 add_row : tie.Need-overflow_add-row
-add_row c = let ready = (from_place c).requires.0.0.ready in omega (arith, within c, ready.size, ready.few-tasks)
+add_row c = let ready = (from_place c).requires.0.0.ready in omega (arith, within c, ready.size, ready.few_tasks)
 
 part-row-end : tie.Need-slice_bounds-row-end
 part-row-end c = within c
@@ -84,14 +84,14 @@ register-requires c κs =
     let a = start.args in
     let fits = row_fits (left_at from) in
     rw (from_is from) (
-      (fits.size, fits.few-accesses, start.requires.0.1),
-      (fits.access-cells, start.requires.1.private-reads a.w),
+      (fits.size, fits.few_accesses, start.requires.0.1),
+      (fits.access_cells, start.requires.1.private_reads a.w),
     )
 
 next-task-requires : tie.Need-next_task-requires
 next-task-requires c κs =
     let from = placed c.before.before.before in
-    omega (arith, (from_place from).requires.0.0.ready.few-tasks, (left_at from).if-tasks-passed.false)
+    omega (arith, (from_place from).requires.0.0.ready.few_tasks, (left_at from).if-tasks-passed.false)
 
 returns-2 : tie.Need-returns-then-index-w
 returns-2 c =
@@ -100,7 +100,7 @@ returns-2 c =
     let from = placed other.before in
     let start = from_place from in
     let a = start.args in
-    let after = noted.register.new.1.1.1.0 in
+    let after = noted.register.new.private in
     let noted_in : List ℕ → List (List (List ℕ)) =
     λ row. noted_all a.private.now a.w (passed-by (left_at from) + 1) (task_of row).accesses
     in
@@ -120,10 +120,10 @@ own-step-requires c κs =
     let here = sound.standing.placed a.w start.requires.0.1 in
     let left = (left_at from).if-tasks-passed.false in
     rw (from_is from) (
-      (row_fits (left_at from), start.requires.0.1, sound.places-size, omega (arith, sound.ready.few-tasks, left)),
+      (row_fits (left_at from), start.requires.0.1, sound.places_size, omega (arith, sound.ready.few_tasks, left)),
       (
         here.stands left,
-        (here.starts, (sound.shape, record { shared_reads = reads.shared-reads; private_reads = reads.private-reads })),
+        (here.starts, (sound.shape, record { shared_reads = reads.shared_reads; private_reads = reads.private_reads })),
       ),
     )
 
@@ -136,7 +136,7 @@ returns-3 c =
     let a = start.args in
     let done = made.own_step in
     let why = outcome_of done.result in
-    let after = arrays done.new.1.1.1.0 done.new.1.1.1.1.0 done.new.1.1.1.1.1.0 done.new.1.1.1.1.1.1.0 in
+    let after = arrays done.new.cells done.new.shared done.new.private done.new.places in
     step_own a.file.now a.version a.tasks a.w (lent start) start.requires.0.0 start.requires.0.1 (left_at from).if-tasks-passed.false why after
     (sym (owner-is own.before) ∙ own.if-index-w.false)
     (subst (λ (row : List ℕ). OwnStep a.version row a.w (lent start) why after) (row_is from) done.ensures)
