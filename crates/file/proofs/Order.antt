@@ -4,7 +4,7 @@
 use mathlib.Core.Path.{◌≡◌, refl, sym, ap, ◌∙◌}
 use mathlib.Core.Bool.{Bool, false, cond}
 use mathlib.Core.List.{List}
-use Prim.Native.Nat.{ℕ, ◌*◌, ◌≤◌, ◌<◌}
+use Prim.Native.Nat.{ℕ, ◌*◌, ◌/◌, ◌≤◌, ◌<◌}
 use native.Mathlib.Nat.{zero-add}
 use borrow.Author.Tests.{ne_eqb, le-leb, lt-leb}
 use lib.ListN.{length}
@@ -20,7 +20,7 @@ use Rattle.roundtrip.proofs.BlockRules.{BlockKept, block_keeps}
 use Rattle.block.specs.declared.Sizes.{Sizes}
 use Rattle.file.specs.declared.Answer.{Answer}
 use Rattle.file.specs.Answers.{answer_of}
-use Rattle.file.proofs.Whole.{WholePieces}
+use Rattle.file.proofs.Whole.{WholePieces, unsound, is_sound}
 
 -- ---- a part that refuses, and one that doesn't
 
@@ -43,6 +43,11 @@ pub length_refused : (file : List ℕ) → length_sound (length file) ≡ false 
 unfolding file_answer
 length_refused file h = rw h
 
+-- and so a count of 0 blocks is answered with 1
+pub length_answered : (file : List ℕ) → cond (length_sound (length file)) (length file / 512) 0 ≡ 0
+    → record { number = 1; place = 0 } ≡ answer_of (file_answer file)
+length_answered file none = ap answer_of (length_refused file (unsound 512 most_bytes (length file) _ refl none))
+
 -- the first refusal among the blocks, and among the rows
 abbrev pub from_blocks : List ℕ → ℕ → ℕ → ℕ → ℕ → ℕ → Rules.Answer
 from_blocks file blocks version tasks workers cells =
@@ -61,6 +66,17 @@ pub record BlocksMet (file : List ℕ) (blocks version : ℕ) (sizes : Sizes) (m
   pub version_is : version ≡ version_of file
   pub stated : Stated file sizes
   pub found : met ≡ answer_of (from_blocks file blocks version sizes.tasks sizes.workers sizes.cells)
+
+-- what is known once the blocks are checked, where their count is not 0
+pub blocks_known : (file : List ℕ) (blocks version : ℕ) (sizes : Sizes) (met : Answer)
+    → blocks ≡ cond (length_sound (length file)) (length file / 512) 0
+    → (blocks ≡ 0 → ⊥)
+    → version ≡ version_of file
+    → Stated file sizes
+    → met ≡ answer_of (from_blocks file blocks version sizes.tasks sizes.workers sizes.cells)
+    → BlocksMet file blocks version sizes met
+blocks_known file blocks version sizes met counted some version_is stated found =
+    record { whole = is_sound 512 most_bytes _ _ counted some; version_is = version_is; stated = stated; found = found }
 
 module _ {file : List ℕ} {blocks version : ℕ} {sizes : Sizes} {met : Answer} (m : BlocksMet file blocks version sizes met) where
   abbrev by_blocks : Rules.Answer

@@ -15,6 +15,7 @@ use block::Sizes;
 use flow::Flow;
 
 // The blocks in so many bytes; 0 where 1 refuses them.
+#[tactic(auto, using(crate::proofs::Whole::none, crate::proofs::Whole::too_many, crate::proofs::Whole::left_over, crate::proofs::Whole::counted))]
 fn whole_blocks(bytes: usize) -> u32
     ensures { result ≡ cond (length_sound bytes) (bytes / 512) 0 }
 {
@@ -78,6 +79,7 @@ fn rows_met(file: &[u8], version: u32, sizes: Sizes) -> Answer
 }
 
 // The first refusal of a file, 0 with place 0 where it meets none.
+#[tactic(auto, using(crate::proofs::Order::length_answered))]
 pub fn first_refusal(file: &[u8]) -> Answer
     ensures { result ≡ answer_of (file_answer file.now) }
 {

@@ -3,7 +3,7 @@
 #![tactic(auto)]
 
 ghost use Rattle.std.specs.Prelude.{◌≡◌, ◌+◌, ◌≤◌, ◌<◌, length};
-ghost use Rattle.layout.specs.Fletcher.{after, fletcher, sums as sumsAt};
+ghost use Rattle.layout.specs.Fletcher.{after, fletcher, sums as sums_at};
 
 // The two sums.
 #[derive(Clone, Copy)]
@@ -16,7 +16,7 @@ pub struct Sums {
 fn add(sums: Sums, bytes: &[u8]) -> Sums
     requires sums_reduced { (sums.a < 255) × (sums.b < 255) }
     requires few_bytes { length bytes.now ≤ 4096 }
-    ensures { (result.a ≡ (after (sumsAt sums.a sums.b) bytes.now).a) × (result.b ≡ (after (sumsAt sums.a sums.b) bytes.now).b) }
+    ensures { (result.a ≡ (after (sums_at sums.a sums.b) bytes.now).a) × (result.b ≡ (after (sums_at sums.a sums.b) bytes.now).b) }
 {
     let mut a = sums.a;
     let mut b = sums.b;

@@ -62,6 +62,7 @@ pub fn all_zero(bytes: &[u8]) -> bool
 }
 
 // Whether a few bytes are all zero: it stops at the first that isn't, and needs hardly a register.
+#[tactic(auto, using(layout::proofs::Zeros::zero_passed, layout::proofs::Zeros::zero_breaks), unfolding(layout::specs::Bytes::all_zero))]
 pub fn few_zero(bytes: &[u8]) -> bool
     ensures { result ≡ all_zero bytes.now }
 {

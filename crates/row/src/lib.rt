@@ -156,6 +156,7 @@ fn operations_sound(row: &[u8], cells: u32) -> bool
 }
 
 // 18: no operation is of code 6, where that is retired. Unused operations are zero by then, so the six codes of a row are compared.
+#[tactic(auto, using(crate::proofs::Codes::six_codes))]
 fn retirement_kept(row: &[u8], retired: bool) -> bool
     requires row_len { length row.now ≡ 48 }
     requires counts_sound { counts_sound row.now ≡ true }

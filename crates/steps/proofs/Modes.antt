@@ -21,27 +21,27 @@ asked_where true may h e = h
 asked_where false may h e = absurd (false≢true e)
 
 module _ (accesses : List Access) (earlier : List Operation) (o : Operation) (h : keeps_modes accesses earlier o ≡ true) where
-  abbrev may_write_lem : Bool
-  may_write_lem = may_write (mode_of accesses o.a)
+  abbrev writes_kept : Bool
+  writes_kept = may_write (mode_of accesses o.a)
 
-  abbrev may_read_lem : ℕ → Bool
-  may_read_lem cell = may_read (mode_of accesses cell) (written earlier cell)
+  abbrev reads_kept : ℕ → Bool
+  reads_kept cell = may_read (mode_of accesses cell) (written earlier cell)
 
-  first_two : (may_write_lem && (not (reads_a o.code) || may_read_lem o.a)) ≡ true
+  first_two : (writes_kept && (not (reads_a o.code) || reads_kept o.a)) ≡ true
   unfolding keeps_modes
-  first_two = and_left (may_write_lem && (not (reads_a o.code) || may_read_lem o.a)) (not (reads_b o.code) || may_read_lem o.b) h
+  first_two = and_left (writes_kept && (not (reads_a o.code) || reads_kept o.a)) (not (reads_b o.code) || reads_kept o.b) h
 
   pub keeps_writes : may_write (mode_of accesses o.a) ≡ true
-  keeps_writes = and_left may_write_lem (not (reads_a o.code) || may_read_lem o.a) first_two
+  keeps_writes = and_left writes_kept (not (reads_a o.code) || reads_kept o.a) first_two
 
   pub keeps_reads_a : reads_a o.code ≡ true → may_read (mode_of accesses o.a) (written earlier o.a) ≡ true
-  keeps_reads_a = asked_where (reads_a o.code) (may_read_lem o.a) (and_right may_write_lem (not (reads_a o.code) || may_read_lem o.a) first_two)
+  keeps_reads_a = asked_where (reads_a o.code) (reads_kept o.a) (and_right writes_kept (not (reads_a o.code) || reads_kept o.a) first_two)
 
   pub keeps_reads_b : reads_b o.code ≡ true → may_read (mode_of accesses o.b) (written earlier o.b) ≡ true
   unfolding keeps_modes
   keeps_reads_b =
-      asked_where (reads_b o.code) (may_read_lem o.b)
-      (and_right (may_write_lem && (not (reads_a o.code) || may_read_lem o.a)) (not (reads_b o.code) || may_read_lem o.b) h)
+      asked_where (reads_b o.code) (reads_kept o.b)
+      (and_right (writes_kept && (not (reads_a o.code) || reads_kept o.a)) (not (reads_b o.code) || reads_kept o.b) h)
 
 -- ---- each after those before it
 

@@ -31,43 +31,43 @@ use Rattle.steps.proofs.Sums.{sum, sum_more, sum_longer}
 -- ---- one worker
 
 -- the owners' steps at the task of an index, and at the tasks before it
-abbrev pub field_own : List Task → ℕ → ℕ
-field_own tasks i = length (own_steps (task_at tasks i))
+abbrev pub own_at : List Task → ℕ → ℕ
+own_at tasks i = length (own_steps (task_at tasks i))
 
 abbrev pub own_before : List Task → ℕ → ℕ
-own_before tasks i = sum i (field_own tasks)
+own_before tasks i = sum i (own_at tasks)
 
 abbrev pub reach : List Task → ℕ → Place → ℕ
-reach tasks w at = own_before tasks at.passed + cond (eqb (task_at tasks at.passed).owner w) at.made (field_own tasks at.passed - 1)
+reach tasks w at = own_before tasks at.passed + cond (eqb (task_at tasks at.passed).owner w) at.made (own_at tasks at.passed - 1)
 
 module _ (tasks : List Task) (some_access : (i : ℕ) → i < length tasks → 1 ≤ length (task_at tasks i).accesses) (w : ℕ) where
-  some_own : (i : ℕ) → i < length tasks → 1 ≤ field_own tasks i
+  some_own : (i : ℕ) → i < length tasks → 1 ≤ own_at tasks i
   some_own i h = some_own_step (task_at tasks i) (some_access i h)
 
   -- an advancing step takes it further
   next_reach : {at next : Place} → NextPlace tasks w at next → reach tasks w at < reach tasks w next
   next_reach {at} (within h more) = go (eqb (task_at tasks at.passed).owner w) more
     where
-      go : (t : Bool) → at.made + 1 < cond t (field_own tasks at.passed) 1
-          → own_before tasks at.passed + cond t at.made (field_own tasks at.passed - 1)
-          < own_before tasks at.passed + cond t (at.made + 1) (field_own tasks at.passed - 1)
+      go : (t : Bool) → at.made + 1 < cond t (own_at tasks at.passed) 1
+          → own_before tasks at.passed + cond t at.made (own_at tasks at.passed - 1)
+          < own_before tasks at.passed + cond t (at.made + 1) (own_at tasks at.passed - 1)
       go true l = omega arith
       go false l = absurd (omega arith)
   next_reach {at} (beyond h last) =
-      omega (arith, go (eqb (task_at tasks at.passed).owner w) last, sum_more at.passed (field_own tasks))
+      omega (arith, go (eqb (task_at tasks at.passed).owner w) last, sum_more at.passed (own_at tasks))
     where
-      go : (t : Bool) → at.made + 1 ≡ cond t (field_own tasks at.passed) 1
-          → cond t at.made (field_own tasks at.passed - 1) < field_own tasks at.passed
+      go : (t : Bool) → at.made + 1 ≡ cond t (own_at tasks at.passed) 1
+          → cond t at.made (own_at tasks at.passed - 1) < own_at tasks at.passed
       go true l = omega arith
       go false l = omega (arith, some_own at.passed h)
 
   -- one that stands at a task has not come past its steps
   reach_below : (at : Place) → PlaceFits tasks w at → at.passed < length tasks → reach tasks w at < own_before tasks (at.passed + 1)
   reach_below at stands h =
-      omega (arith, go (eqb (task_at tasks at.passed).owner w) refl, sum_more at.passed (field_own tasks))
+      omega (arith, go (eqb (task_at tasks at.passed).owner w) refl, sum_more at.passed (own_at tasks))
     where
       go : (t : Bool) → eqb (task_at tasks at.passed).owner w ≡ t
-          → cond t at.made (field_own tasks at.passed - 1) < field_own tasks at.passed
+          → cond t at.made (own_at tasks at.passed - 1) < own_at tasks at.passed
       go true e = own_unmade stands h (eqb-true _ _ e)
       go false e = omega (arith, some_own at.passed h)
 
@@ -76,7 +76,7 @@ module _ (tasks : List Task) (some_access : (i : ℕ) → i < length tasks → 1
   reach_passed at stands p inside far = omega (arith, lt_of_not-le short)
     where
       short : at.passed + 1 ≤ p → ⊥
-      short l = omega (arith, reach_below at stands (omega arith), sum_longer (at.passed + 1) p (field_own tasks) l)
+      short l = omega (arith, reach_below at stands (omega arith), sum_longer (at.passed + 1) p (own_at tasks) l)
 
 -- ---- all workers
 
