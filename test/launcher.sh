@@ -52,17 +52,18 @@ asked() {
 # ---- the small tree
 
 # A stand-in for rt, in a crate's folder. It takes a crate for proved unless it has a file src/fault, and a crate's src/main.rt for its
-# program, which it runs. Where a file says that another works there, it says that it waits. And one for the emulator, without its loader.
+# program, which it runs. Where a file says that another works there, it says that it waits. And a stand-in for the emulator.
 stand_in() {
     mkdir -p "$room/kit/bin"
     echo "stand-in 1" >"$room/kit/KIT-ID"
-    printf '#!/bin/sh\nshift 3\nexec "$@"\n' >"$room/kit/bin/qemu-x86_64"
+    printf '#!/bin/sh\necho emulated >&2\nshift 3\nexec "$@"\n' >"$room/kit/bin/qemu-x86_64"
     cat >"$room/kit/bin/rt" <<'TEXT'
 #!/usr/bin/env bash
 own=${PWD##*/}
 echo "$1 $own" >>"$ASKED"
 [ "$1" != run ] || exec 3>&1 1>&2
 [ ! -e out/busy ] || { echo "rt: waiting for another rt to finish in $PWD" >&2; rm out/busy; }
+sleep "${QUIET:-0}"
 for name in low "$own"; do
     out=../$name/out
     mkdir -p "$out/rlib"
@@ -151,7 +152,10 @@ statuses() {
         try 1 "$tree/sflw" "$verb" <<<refuse && wrote 'refused 4 place 0\n' && asked 0 && said 0
         try 2 "$tree/sflw" "$verb" fast && wrote && said 1 "standard input"
     done
-    try 0 "$tree/sflw" lib && wrote "libsflw.a and sflw.h are in $tree/target/staticlib\n" && asked 1 && said 1 "proving the library"
+    QUIET=2.5 try 0 "$tree/sflw" lib && wrote "libsflw.a and sflw.h are in $tree/target/staticlib\n" && asked 1
+    said 1 "proving the library and all below, 1 of 2 crates"
+    [ "$(cat "$tree/target/staticlib/libsflw.a")" = library ] || wrong "libsflw.a is not what was made"
+    cmp -s "$tree/include/sflw.h" "$tree/target/staticlib/sflw.h" || wrong "sflw.h is not left"
     try 0 "$tree/sflw" lib && wrote "libsflw.a and sflw.h are in $tree/target/staticlib\n" && asked 0 && said 0
     try 0 "$tree/sflw" cases && wrote "$(printf 'ran \\n%.0s' "${worked[@]}")" && asked ${#worked[@]} && said 1 "proving ${worked[0]}, "
     echo else >"$tree/crates/${worked[0]}/stdout"
@@ -169,6 +173,12 @@ changes() {
     try 0 go more && asked 0
     touch "$tree/crates/low/src/lib.rt"
     try 0 go touched && wrote 'ran touched\n' && asked 1 && said 0
+    touch "$tree/crates/low/src/lib.rt"
+    QUIET=2.5 try 0 go silent && wrote 'ran silent\n' && asked 1 && said 1 "2 of 2 crates"
+    cp -p "$tree/crates/low/src/lib.rt" "$room/was"
+    echo 2 >>"$tree/crates/low/src/lib.rt"
+    touch -r "$room/was" "$tree/crates/low/src/lib.rt"
+    try 0 go hidden && asked 1 && said 1 "proving"
     echo 2 >>"$tree/crates/low/src/lib.rt"
     try 0 go changed && asked 1 && said 1 "proving"
     rm "$tree/crates/low/src/more.rt"
@@ -192,16 +202,16 @@ changes() {
     try 0 go same && asked 0 && said 0
 }
 
-# A proof that fails or is broken off leaves nothing to be started. One that was not foreseen is told of after two seconds.
+# A proof that fails or is broken off leaves nothing to be started, until the sources are again as they were when they were proved.
 failures() {
     echo 1 >"$tree/crates/low/src/fault"
     try 1 go fault && wrote && asked 1
     grep -q "low::fault: not proved" "$room/err" || wrong "the log is not on standard error"
     try 1 go fault && wrote && asked 1
     rm "$tree/crates/low/src/fault"
-    try 0 go mended && wrote 'ran mended\n'
+    try 0 go mended && wrote 'ran mended\n' && asked 0
     echo 3 >>"$tree/crates/low/src/lib.rt"
-    SLOW=20 try 124 timeout 6 "$tree/sflw" run </dev/null && wrote && said 1 "proving sflw_run"
+    SLOW=20 try 124 timeout 4 "$tree/sflw" run </dev/null && wrote && said 1 "proving sflw_run"
     try 0 go after && wrote 'ran after\n' && asked 1
 }
 
@@ -229,7 +239,7 @@ arm() {
     mkdir "$room/arm"
     printf '#!/bin/sh\necho aarch64\n' >"$room/arm/uname"
     chmod +x "$room/arm/uname"
-    PATH="$room/arm:$PATH" try 0 go arm && wrote 'ran arm\n' && said 0
+    PATH="$room/arm:$PATH" try 0 go arm && wrote 'ran arm\n' && said 1 "emulated"
     rm "$room/kit/bin/qemu-x86_64"
     command -v qemu-x86_64 >/dev/null || { PATH="$room/arm:$PATH" try 1 go arm && wrote && said 1 "emulator"; }
 }
