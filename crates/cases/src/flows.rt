@@ -11,7 +11,7 @@ fn lay(bytes: &mut [u8], at: usize, given: &[u8])
     requires { at + length given.now ≤ length bytes.old }
 {
     let end = at + given.len();
-    bytes::copy(given, &mut bytes[at..end]);
+    bytes[at..end].copy_from_slice(given);
 }
 
 // Task 1: owner 0, write 0; cell 0 becomes 4660.

@@ -9,14 +9,14 @@ mod text;
 mod vectors;
 mod words;
 
-use libc::STDIN_FILENO;
+const STANDARD_INPUT: i32 = 0;
 
 fn main() {
     vectors::run();
     let rows = flows::rows();
     let mut space = [0u8; 20480];
     let lent: &mut [u8] = &mut space;
-    let size = io::read_full(STDIN_FILENO, lent);
+    let size = io::read_full(STANDARD_INPUT, lent);
     if size == lent.len() {
         say::text(b"more cases than there is room for\n");
     }

@@ -1,18 +1,19 @@
 // What is written of an answer. Counts follow where one of them isn't zero, so that a line without them says that all are.
 use file::CheckAnswer;
 use fletcher::Sums;
-use libc::STDOUT_FILENO;
 use reader::ReadAnswer;
 use writer::WriteAnswer;
 
+const STANDARD_OUTPUT: i32 = 1;
+
 pub(crate) fn text(words: &[u8]) {
-    io::write_all(STDOUT_FILENO, words);
+    io::write_all(STANDARD_OUTPUT, words);
 }
 
 // A number after a space.
 pub(crate) fn number(n: u32) {
     text(b" ");
-    io::print_decimal(STDOUT_FILENO, n as u64);
+    io::print_decimal(STANDARD_OUTPUT, n as u64);
 }
 
 // A number after its name.

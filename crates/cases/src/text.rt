@@ -6,8 +6,11 @@ pub(crate) fn part<'a>(text: &'a [u8], from: usize, separator: u8) -> &'a [u8]
     requires { from ≤ length text.now }
     ensures { from + length result.now ≤ length text.now }
 {
-    let to = bytes::scan::find(text, from, text.len(), separator);
-    &text[from..to]
+    let rest = &text[from..];
+    match rest.iter().position(|byte| *byte == separator) {
+        Some(end) => &rest[..end],
+        None => rest,
+    }
 }
 
 pub(crate) fn is_digit(byte: u8) -> bool {

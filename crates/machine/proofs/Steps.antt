@@ -39,12 +39,12 @@ change_size does number m w (end_read c) = refl
 change_size does number m w (zero_reads c) = refl
 change_size does number m w (post_write c) = refl
 
--- the outcomes whose tags the code tells from that of an advancing step are those with which the worker stays
-pub stays : (why : Code.Outcome) → OneOf (1 ∷ 2 ∷ 3 ∷ []) (tag_of the_type why) → moves_on (outcome_of why) ≡ false
-stays Advanced keys = absurd (⊎_elim (λ one. omega arith) (⊎_elim (λ two. omega arith) (λ three. omega arith)) keys)
-stays PastLast keys = refl
-stays (WriteDiffers cell) keys = refl
-stays (ReadsDiffer cell) keys = refl
+-- with every outcome but that of an advancing step the worker stays
+pub stays : (why : Code.Outcome) → (why ≡ Advanced → ⊥) → moves_on (outcome_of why) ≡ false
+stays Advanced other = absurd (other refl)
+stays PastLast other = refl
+stays (WriteDiffers cell) other = refl
+stays (ReadsDiffer cell) other = refl
 
 -- and then the machine is left
 held_back : (why : Outcome) → moves_on why ≡ false → (m after : Machine) → stepped why m ≡ attempted why m after

@@ -1,5 +1,5 @@
-// The row reader: it keeps a lent file and its place in it, and gives the file's rows one by one. The borrow checker covers no
-// function over a struct that holds a slice, so `new` and `next` are thin, over functions that take the slice and the number.
+// The row reader: it keeps a lent file and its place in it, and gives the file's rows one by one. `new` and `next` are thin, over
+// functions that take the slice and the number.
 #![tactic(auto)]
 
 ghost use Rattle.std.specs.Prelude.{◌≡◌};

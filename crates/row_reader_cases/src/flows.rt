@@ -9,17 +9,14 @@ use flow::Flow;
 fn lay_a(rows: &mut [u8])
     requires { length rows.old ≡ 144 }
 {
-    bytes::copy(
+    rows[0..18].copy_from_slice(
         b"\x00\x01\x01\x00\x00\x02\x00\x00\x00\x00\x00\x00\x01\x00\x00\x00\x34\x12",
-        &mut rows[0..18],
     );
-    bytes::copy(
+    rows[48..66].copy_from_slice(
         b"\x01\x02\x01\x00\x00\x01\x01\x02\x00\x00\x00\x00\x05\x01\x00\x00\x00\x00",
-        &mut rows[48..66],
     );
-    bytes::copy(
+    rows[96..114].copy_from_slice(
         b"\x00\x02\x01\x00\x01\x01\x02\x03\x00\x00\x00\x00\x03\x02\x01\x00\x00\x00",
-        &mut rows[96..114],
     );
 }
 
@@ -50,7 +47,7 @@ fn lay_rows(rows: &mut [u8])
     while done < Flow::MAX_TASKS {
         let from = octets::offset(48 * done);
         let row = row_of(done + 1);
-        bytes::copy(&row, &mut rows[from..from + 48]);
+        rows[from..from + 48].copy_from_slice(&row);
         done += 1;
     }
 }

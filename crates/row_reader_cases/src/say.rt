@@ -1,23 +1,24 @@
 // The lines: the number of the call or of the task, and what was answered.
 use file::Answer;
-use libc::STDOUT_FILENO;
 use row_reader::Found;
 
+const STANDARD_OUTPUT: i32 = 1;
+
 pub(crate) fn text(words: &[u8]) {
-    io::write_all(STDOUT_FILENO, words);
+    io::write_all(STANDARD_OUTPUT, words);
 }
 
 // A number after a space.
 pub(crate) fn spaced(n: u32) {
     text(b" ");
-    io::print_decimal(STDOUT_FILENO, n as u64);
+    io::print_decimal(STANDARD_OUTPUT, n as u64);
 }
 
 // What the number that follows counts, and a colon.
 pub(crate) fn numbered(kind: &[u8], number: u64) {
     text(kind);
     text(b" ");
-    io::print_decimal(STDOUT_FILENO, number);
+    io::print_decimal(STANDARD_OUTPUT, number);
     text(b":");
 }
 

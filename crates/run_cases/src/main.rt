@@ -5,7 +5,8 @@
 mod say;
 
 use flow::Flow;
-use libc::STDIN_FILENO;
+
+const STANDARD_INPUT: i32 = 0;
 
 fn plainly(name: &[u8], file: &[u8], cells: &mut [u32]) {
     let told = run::plain(file, cells);
@@ -79,7 +80,7 @@ fn long_schedules(file: &[u8]) {
 
 fn main() {
     let mut input = [0u8; Flow::MAX_BYTES + 1];
-    let n = io::read_full(STDIN_FILENO, &mut input);
+    let n = io::read_full(STANDARD_INPUT, &mut input);
     let file = &input[..n];
     plain_cases(file);
     short_schedules(file);

@@ -1,19 +1,20 @@
 // The lines: a case's name, the number and the place answered, the counts of a stepped run with the latest held step of workers 0 and 1, and
+
+const STANDARD_OUTPUT: i32 = 1;
 // the cells.
-use libc::STDOUT_FILENO;
 
 fn decimal(n: u32) {
-    io::print_decimal(STDOUT_FILENO, n as u64);
+    io::print_decimal(STANDARD_OUTPUT, n as u64);
 }
 
 // A number after its name.
 fn named(name: &[u8], n: u32) {
-    io::write_all(STDOUT_FILENO, name);
+    io::write_all(STANDARD_OUTPUT, name);
     decimal(n);
 }
 
 pub(crate) fn answered(name: &[u8], number: u32, place: u32) {
-    io::write_all(STDOUT_FILENO, name);
+    io::write_all(STANDARD_OUTPUT, name);
     named(b": ", number);
     named(b" place ", place);
 }
@@ -41,11 +42,11 @@ pub(crate) fn latest(worker: u32, reason: u32, cell: u32) {
 
 // The cells, and the end of the line.
 pub(crate) fn cells(values: &[u32]) {
-    io::write_all(STDOUT_FILENO, b" cells");
+    io::write_all(STANDARD_OUTPUT, b" cells");
     let mut i = 0;
     while i < values.len() {
         named(b" ", values[i]);
         i += 1;
     }
-    io::write_all(STDOUT_FILENO, b"\n");
+    io::write_all(STANDARD_OUTPUT, b"\n");
 }

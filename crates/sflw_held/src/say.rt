@@ -2,17 +2,18 @@
 ghost use Rattle.std.specs.Prelude.{◌≤◌};
 ghost use Rattle.layout.specs.Flow.{most_workers};
 
-use libc::STDOUT_FILENO;
 use run::RunAnswer;
 
+const STANDARD_OUTPUT: i32 = 1;
+
 fn words(text: &[u8]) {
-    io::write_all(STDOUT_FILENO, text);
+    io::write_all(STANDARD_OUTPUT, text);
 }
 
 // A word and a number after it.
 fn pair(word: &[u8], n: u32) {
     words(word);
-    io::print_decimal(STDOUT_FILENO, n as u64);
+    io::print_decimal(STANDARD_OUTPUT, n as u64);
 }
 
 // The same as a whole line.

@@ -9,8 +9,9 @@ ghost use Rattle.steps.specs.Run.{largest_total};
 ghost use Rattle.measure.specs.Promises.{MeasurePromise};
 
 use flow::Flow;
-use libc::STDIN_FILENO;
 use measure::Measured;
+
+const STANDARD_INPUT: i32 = 0;
 
 // Runs a flow of these sizes with the workers in turn, and writes what came of it. It has finished, whatever the flow.
 fn run_and_tell(file: &[u8], sizes: Measured, cells: &mut [u32], room: &mut [u8])
@@ -27,7 +28,7 @@ fn run_and_tell(file: &[u8], sizes: Measured, cells: &mut [u32], room: &mut [u8]
 fn main() {
     // One byte more than the longest file, so that a longer input is refused for its length.
     let mut input = [0u8; Flow::MAX_BYTES + 1];
-    let n = io::read_full(STDIN_FILENO, &mut input);
+    let n = io::read_full(STANDARD_INPUT, &mut input);
     let file = &input[..n];
     let sizes = measure::measure(file);
     if sizes.number != 0 {

@@ -1,16 +1,16 @@
 // The lines that the run program writes.
 ghost use Rattle.std.specs.Prelude.{◌≡◌};
 
-use libc::STDOUT_FILENO;
+const STANDARD_OUTPUT: i32 = 1;
 
 // A word and a number after it.
 fn pair(word: &[u8], n: u32) {
-    io::write_all(STDOUT_FILENO, word);
-    io::print_decimal(STDOUT_FILENO, n as u64);
+    io::write_all(STANDARD_OUTPUT, word);
+    io::print_decimal(STANDARD_OUTPUT, n as u64);
 }
 
 fn end() {
-    io::write_all(STDOUT_FILENO, b"\n");
+    io::write_all(STANDARD_OUTPUT, b"\n");
 }
 
 pub(crate) fn refused(number: u32, place: u32) {
@@ -41,7 +41,7 @@ pub(crate) fn told(finished: u32, advanced: u32, held: u32, done: u32)
 pub(crate) fn cells(values: &[u32]) {
     let mut i = 0;
     while i < values.len() {
-        io::print_decimal(STDOUT_FILENO, i as u64);
+        io::print_decimal(STANDARD_OUTPUT, i as u64);
         pair(b" ", values[i]);
         end();
         i += 1;

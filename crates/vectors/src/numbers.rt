@@ -19,7 +19,7 @@ fn put(bytes: &mut [u8], at: usize, n: u32)
         octets::low(n / 16777216),
     ];
     let end = at + 4;
-    bytes::copy(&four, &mut bytes[at..end]);
+    bytes[at..end].copy_from_slice(&four);
 }
 
 // How many numbers the bytes have room for: at most 256 are asked for.

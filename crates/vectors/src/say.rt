@@ -1,15 +1,16 @@
 // The lines that the program writes.
 use crate::tally::NUMBERS;
-use libc::STDOUT_FILENO;
+
+const STANDARD_OUTPUT: i32 = 1;
 
 fn text(words: &[u8]) {
-    io::write_all(STDOUT_FILENO, words);
+    io::write_all(STANDARD_OUTPUT, words);
 }
 
 // Words, and a number after them.
 fn pair(words: &[u8], n: u32) {
     text(words);
-    io::print_decimal(STDOUT_FILENO, n as u64);
+    io::print_decimal(STANDARD_OUTPUT, n as u64);
 }
 
 pub(crate) fn line(words: &[u8]) {

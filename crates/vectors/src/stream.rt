@@ -1,7 +1,7 @@
 // The data, as it comes from standard input.
 ghost use Rattle.std.specs.Prelude.{◌≤◌, length};
 
-use libc::STDIN_FILENO;
+const STANDARD_INPUT: i32 = 0;
 
 fn least(a: usize, b: usize) -> usize
     ensures { (result ≤ a) × (result ≤ b) }
@@ -12,7 +12,7 @@ fn least(a: usize, b: usize) -> usize
 // Reads so many bytes into the room, and answers them: fewer where the data or the room ends.
 pub(crate) fn take(room: &mut [u8], size: usize) -> &mut [u8] {
     let most = least(size, room.len());
-    let got = io::read_full(STDIN_FILENO, &mut room[0..most]);
+    let got = io::read_full(STANDARD_INPUT, &mut room[0..most]);
     &mut room[0..got]
 }
 

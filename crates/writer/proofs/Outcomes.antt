@@ -14,10 +14,13 @@ use Rattle.layout.specs.File.{lent_after}
 use Rattle.layout.specs.Write.{row_count, file_of, rows_answer, write_answer}
 use Rattle.layout.proofs.Blocks.{version_byte, in_range_lem}
 use Rattle.flow.specs.declared.Flow.{Flow}
-use Rattle.flow.proofs.Answers.{MadeAs}
+use Rattle.flow.specs.declared.Made.{Made}
+use Rattle.flow.specs.declared.Made.TheVariants.{Within}
+use Rattle.flow.specs.Made.{stated_by, asked_for}
+use Rattle.flow.proofs.Answers.{MadeAs, within_is}
 use Rattle.file.specs.declared.Answer.{Answer}
 use Rattle.file.specs.Answers.{answer_of}
-use Rattle.file.proofs.Whole.{WholePieces}
+use Rattle.file.proofs.Whole.{WholePieces, whole_in, is_sound}
 use Rattle.file.proofs.Order.{first_given, too_short, long_enough}
 use Rattle.file.proofs.Outcomes.{lent_kept}
 use Rattle.file.proofs.Laid.{laid, laid_is}
@@ -55,6 +58,18 @@ write_all blocks = record { number = 0; place = 0; bytes = 512 * blocks }
 pub record FlowMade (rows : List ℕ) (version tasks workers cells : ℕ) (flow : Flow) : Type 0 where
   pub whole : WholePieces 48 most_row_bytes (length rows) tasks
   pub made : MadeAs flow version tasks workers cells
+
+-- the rows were counted and are some, and the constructor gave a flow of that count
+pub flow_made : (rows : List ℕ) (version tasks workers cells : ℕ) (made : Made) (flow : Flow) → tasks ≡ whole_in 48 most_row_bytes (length rows)
+    → (tasks ≡ 0 → ⊥)
+    → stated_by made ≡ asked_for version tasks workers cells
+    → made ≡ Within flow
+    → FlowMade rows version tasks workers cells flow
+flow_made rows version tasks workers cells made flow counted some asked within =
+    record {
+      whole = is_sound 48 most_row_bytes (length rows) tasks counted some;
+      made = within_is version tasks workers cells flow (ap stated_by (sym within) ∙ asked);
+    }
 
 pub record FlowFits (rows : List ℕ) (flow : Flow) : Type 0 where
   pub is_whole : length rows ≡ 48 * flow.tasks

@@ -3,11 +3,11 @@ use borrow.Author.Rules.{rules}
 use Rattle.counters.proofs.note.Statement.{statement}
 use Rattle.counters.proofs.note.Tie as tie
 
-returns : tie.Need-returns
-returns c = rw c.if1.true
+returns : tie.Need-returns-then-write
+returns c = rw c.if-write.true
 
-returns-2 : tie.Need-returns-2
-returns-2 c = rw c.before.before.if1.false
+returns-2 : tie.Need-returns-else-write
+returns-2 c = rw c.before.before.if-write.false
 
 pub note_spec : {M : Type 1} → statement M
 note_spec =

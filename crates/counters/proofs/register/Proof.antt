@@ -54,15 +54,15 @@ unfolding noted_all
 noted_next row count w number j cell write all before after more of-cell of-write is rest =
     rest ∙ ap (noted_all before w number) (each-drop count (access_at row) j more) ∙ rw (is, of-cell, of-write)
 
-abbrev invariant-loop : tie.invariant-loop
+abbrev invariant-loop : tie.invariant-loop-j
 invariant-loop row w number private₀ count j₀ private j =
     (j ≤ count) × ((c : ℕ) → reads_at private w c ≤ most_reads + j)
     × (noted_all private₀ w number (each count (access_at row)) ≡ noted_all private w number (drop j (each count (access_at row))))
 
-abbrev decreases-loop : tie.decreases-loop
+abbrev decreases-loop : tie.decreases-loop-j
 decreases-loop row w number private₀ count j₀ private j = count - j
 
-loop-holds : tie.Need-loop-init invariant-loop decreases-loop
+loop-holds : tie.Need-loop-j-init invariant-loop decreases-loop
 loop-holds c = (search rules, λ x. omega (arith, c.before.before.before.requires.1.1 x), refl)
 
 note-requires : tie.Need-note-requires invariant-loop decreases-loop
@@ -71,11 +71,11 @@ note-requires c κs =
     let at = read.before.before.before in
     let pre = at.before.before.before.before.requires in (
       pre.0.2,
-      rw read.index2.ensures.0 (pre.1.0 at.loop.j (omega arith)),
-      omega (arith, at.loop.invariant.1 read.index2.result),
+      rw read.index-cell.ensures.0 (pre.1.0 at.loop-j.j (omega arith)),
+      omega (arith, at.loop-j.invariant.1 read.index-cell.result),
     )
 
-loop-again : tie.Need-loop-preserved invariant-loop decreases-loop
+loop-again : tie.Need-loop-j-preserved invariant-loop decreases-loop
 loop-again c =
     let read = c.before.before.before in
     let turn = read.before.before in
@@ -84,21 +84,21 @@ loop-again c =
       omega arith,
       λ x.
           rw c.note.ensures
-          (reads_noted at.loop.private a.w read.index2.result c.before.before.is-write.result a.number (most_reads + at.loop.j)
-          (most_reads + (at.loop.j + 1))
+          (reads_noted at.loop-j.private a.w read.index-cell.result c.before.before.is_write-write.result a.number (most_reads + at.loop-j.j)
+          (most_reads + (at.loop-j.j + 1))
           (omega arith)
-          at.loop.invariant.1
+          at.loop-j.invariant.1
           x),
-      noted_next a.row.now at.before.index.result a.w a.number at.loop.j read.index2.result
-          c.before.before.is-write.result
+      noted_next a.row.now at.before.index-count.result a.w a.number at.loop-j.j read.index-cell.result
+          c.before.before.is_write-write.result
           _
-          at.loop.private
-          c.note.new.0
-          turn.loop-test.true
-          read.index2.ensures.0
-          c.before.before.is-write.ensures
+          at.loop-j.private
+          c.note.new.private
+          turn.loop-j-test.true
+          read.index-cell.ensures.0
+          c.before.before.is_write-write.ensures
           c.note.ensures
-          at.loop.invariant.2,
+          at.loop-j.invariant.2,
     )
 
 returns : tie.Need-returns invariant-loop decreases-loop
@@ -106,11 +106,11 @@ unfolding task_of noted_all
 returns c =
     let at = c.before in
     let a = at.before.before.before.before.args in
-    let count = at.before.index.result in
+    let count = at.before.index-count.result in
     sym
-    (rw at.before.index.ensures.0 at
-    (at.loop.invariant.2
-    ∙ ap (noted_all at.loop.private a.w a.number) (each-drop-all count (access_at a.row.now) at.loop.j c.loop-test.false)))
+    (rw at.before.index-count.ensures.0 at
+    (at.loop-j.invariant.2
+    ∙ ap (noted_all at.loop-j.private a.w a.number) (each-drop-all count (access_at a.row.now) at.loop-j.j c.loop-j-test.false)))
 
 pub register_spec : {M : Type 1} → statement M
 register_spec =

@@ -11,7 +11,7 @@ returns c =
     let i = read_a.before.before.before.before.before.args.index in
     let second : 16 + 6 * i + 1 ≡ 17 + 6 * i = omega arith in
     rw
-    (c.value.ensures, word.word.ensures.0, read-b.index2.ensures.0, read_a.index.ensures.0, second)
+    (c.value.ensures, word.word-k.ensures.0, read-b.index-b.ensures.0, read_a.index-a.ensures.0, second)
 
 pub operate_spec : {M : Type 1} → statement M
 operate_spec =

@@ -11,49 +11,49 @@ use Rattle.longest.proofs.worst_case.Statement.{statement}
 use Rattle.longest.proofs.worst_case.Tie as tie
 
 -- the measuring, as seen from a refusal; from where there is none; and from each sum
-returns : tie.Need-returns
+returns : tie.Need-returns-then-sizes-ne0
 returns c =
     let met = c.before.before in
-    figures_refused _ met.measure.result met.measure.ensures c.if1.true
+    figures_refused _ met.measure-sizes.result met.measure-sizes.ensures c.if-sizes-ne0.true
 
-abbrev measured : tie.Else1 → tie.After-measure
+abbrev measured : tie.Else-sizes-ne0 → tie.After-measure-sizes
 measured c = c.before.before
 
-abbrev sizes : tie.Else1 → Measured
-sizes c = (measured c).measure.result
+abbrev sizes : tie.Else-sizes-ne0 → Measured
+sizes c = (measured c).measure-sizes.result
 
-abbrev own : tie.Else1 → ℕ
+abbrev own : tie.Else-sizes-ne0 → ℕ
 own c = own_total (flow_of (measured c).before.before.args.file.now).tasks
 
-known : (c : tie.Else1) → Figures (sizes c) (own c)
-known c = figures _ (sizes c) (measured c).measure.ensures c.if1.false
+known : (c : tie.Else-sizes-ne0) → Figures (sizes c) (own c)
+known c = figures _ (sizes c) (measured c).measure-sizes.ensures c.if-sizes-ne0.false
 
 -- what is left of the total
-left_is : (c : tie.Else1) → (sizes c).total - (sizes c).tasks * ((sizes c).workers - 1) ≡ own c
-left_is c = omega (arith, (known c).total-is)
+left_is : (c : tie.Else-sizes-ne0) → (sizes c).total - (sizes c).tasks * ((sizes c).workers - 1) ≡ own c
+left_is c = omega (arith, (known c).total_is)
 
-steps-are : (c : tie.Else1) → ((sizes c).total - (sizes c).tasks * ((sizes c).workers - 1)) * (sizes c).workers ≡ own c * (sizes c).workers
+steps-are : (c : tie.Else-sizes-ne0) → ((sizes c).total - (sizes c).tasks * ((sizes c).workers - 1)) * (sizes c).workers ≡ own c * (sizes c).workers
 steps-are c = rw (left_is c)
 
-sub-stretches : tie.Need-overflow-sub-stretches
-sub-stretches c = (known c.before).some-worker
+sub-stretches : tie.Need-overflow_sub-stretches
+sub-stretches c = (known c.before).some_worker
 
-mul-stretches : tie.Need-overflow-mul-stretches
-mul-stretches c = omega (arith, (known c.before.before).others-fit)
+mul-stretches : tie.Need-overflow_mul-stretches
+mul-stretches c = omega (arith, (known c.before.before).others_fit)
 
-sub-stretches-2 : tie.Need-overflow-sub-stretches-2
-sub-stretches-2 c = omega (arith, (known c.before.before.before).total-is)
+sub-stretches-2 : tie.Need-overflow_sub-stretches-2
+sub-stretches-2 c = omega (arith, (known c.before.before.before).total_is)
 
-mul-steps : tie.Need-overflow-mul-steps
-mul-steps c = let at = c.before.before.before.before in omega (arith, (known at).steps-fit, steps-are at)
+mul-steps : tie.Need-overflow_mul-steps
+mul-steps c = let at = c.before.before.before.before in omega (arith, (known at).steps_fit, steps-are at)
 
-sub-t6 : tie.Need-overflow-sub-t6
-sub-t6 c = let at = c.before.before.before.before.before in omega (arith, (known at).total-below, steps-are at)
+sub-t6 : tie.Need-overflow_sub-result
+sub-t6 c = let at = c.before.before.before.before.before in omega (arith, (known at).total_below, steps-are at)
 
-returns-2 : tie.Need-returns-2
+returns-2 : tie.Need-returns
 returns-2 c =
     let at = c.before.before.before.before.before in
-    figures_are _ (sizes at) (measured at).measure.ensures at.if1.false _ _ (left_is at) refl
+    figures_are _ (sizes at) (measured at).measure-sizes.ensures at.if-sizes-ne0.false _ _ (left_is at) refl
 
 pub worst_case_spec : {M : Type 1} → statement M
 worst_case_spec =

@@ -5,52 +5,52 @@ use mathlib.Core.List.{List}
 use Prim.Native.Nat.{ℕ, ◌+◌, ◌-◌, ◌≤◌}
 use borrow.Author.Rules.{rules}
 use lib.ListN.{length}
-use Rattle.layout.specs.File.{row_start, row_at}
+use Rattle.layout.specs.Bytes.{part}
+use Rattle.layout.specs.File.{row_at}
 use Rattle.roundtrip.proofs.Places.{row_long}
-use Rattle.file.proofs.Laid.{laid, laid_none, laid_more, copied}
+use Rattle.file.proofs.Laid.{laid, laid_none, laid_more}
 use Rattle.reader.proofs.copy_rows.Statement.{statement}
 use Rattle.reader.proofs.copy_rows.Tie as tie
 
-abbrev invariant-loop : tie.invariant-loop
+abbrev invariant-loop : tie.invariant-loop-done
 invariant-loop file rows₀ tasks done₀ rows done =
     (done ≤ tasks) × (length rows ≡ length rows₀) × (rows ≡ laid 48 (row_at file) (λ i. i + 1) rows₀ done)
 
-abbrev decreases-loop : tie.decreases-loop
+abbrev decreases-loop : tie.decreases-loop-done
 decreases-loop file rows₀ tasks done₀ rows done = tasks - done
 
-loop-holds : tie.Need-loop-init invariant-loop decreases-loop
+loop-holds : tie.Need-loop-done-init invariant-loop decreases-loop
 loop-holds c =
     let a = c.before.before.args in
     (search rules, search rules, laid_none 48 (row_at a.file.now) (λ i. i + 1) a.rows.now)
 
-loop-again : tie.Need-loop-preserved invariant-loop decreases-loop
+loop-again : tie.Need-loop-done-preserved invariant-loop decreases-loop
 loop-again c =
     let copied-there = c.before.before in
     let placed = copied-there.before.before.before in
     let head = placed.before.before.before in
     let a = head.before.before.before.args in
-    let l = head.loop in
-    let from = placed.before.start in
-    let to = placed.offset in
-    let piece : List ℕ = copied-there.copy.new.1.0 in (
+    let l = head.loop-done in
+    let from = placed.before.start-from in
+    let to = placed.offset-to in
+    let piece : List ℕ = copied-there.copy_from_slice.new.self in (
       search rules,
       search rules,
       laid_more 48 (row_at a.file.now) (λ i. i + 1) a.rows.now l.done to.result l.rows piece
           (λ i m. row_long a.file.now a.tasks i (search rules) (search rules))
           l.invariant.2
           to.ensures
-          (copied 48 from.result to.result (row_start (l.done + 1)) a.file.now l.rows piece (search rules)
-          copied-there.copy.ensures.1 from.ensures),
+          (copied-there.copy_from_slice.ensures.1 ∙ ap (λ (k : ℕ). part k (k + 48) a.file.now) from.ensures),
     )
 
-same_length : tie.Need-same-length invariant-loop decreases-loop
-same_length c = c.before.loop.invariant.1
+same_length : tie.Need-shape_of-rows invariant-loop decreases-loop
+same_length c = c.before.loop-done.invariant.1
 
 returns : tie.Need-returns invariant-loop decreases-loop
 returns c =
     let a = c.before.before.before.before.args in
-    let all : c.before.loop.done ≡ a.tasks = search rules in
-    c.before.loop.invariant.2 ∙ ap (laid 48 (row_at a.file.now) (λ i. i + 1) a.rows.now) all
+    let all : c.before.loop-done.done ≡ a.tasks = search rules in
+    c.before.loop-done.invariant.2 ∙ ap (laid 48 (row_at a.file.now) (λ i. i + 1) a.rows.now) all
 
 pub copy_rows_spec : {M : Type 1} → statement M
 copy_rows_spec =

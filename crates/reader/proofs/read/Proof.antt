@@ -10,46 +10,46 @@ use Rattle.reader.proofs.read.Statement.{statement}
 use Rattle.reader.proofs.read.Tie as tie
 
 -- where the function starts, as seen after the check; and the check, as seen once it is passed
-abbrev from-check : tie.After-check → tie.Start
+abbrev from-check : tie.After-check-met → tie.Start
 from-check c = c.before.before.before
 
-abbrev checked : tie.Else1 → tie.After-check
+abbrev checked : tie.Else-met-ne0 → tie.After-check-met
 checked c = c.before.before
 
 -- where the check is passed, as seen once the bytes are counted
-abbrev passed : tie.After-offset → tie.Else1
+abbrev passed : tie.After-offset → tie.Else-met-ne0
 passed c = c.before.before
 
-returns : tie.Need-returns
+returns : tie.Need-returns-then-met-ne0
 returns c =
-    read_refused_lem _ c.before.if1.true _ _ _ (passed_on c.before.before.before.check.ensures _ c.before.if1.true)
+    read_refused_lem _ c.before.if-met-ne0.true _ _ _ (passed_on c.before.before.before.check-met.ensures _ c.before.if-met-ne0.true)
     c.refused.ensures
 
-mul-bytes : tie.Need-overflow-mul-bytes
-mul-bytes c = omega (arith, rows_fit (checked c.before).check.ensures c.before.if1.false)
+mul-bytes : tie.Need-overflow_mul-bytes
+mul-bytes c = omega (arith, rows_fit (checked c.before).check-met.ensures c.before.if-met-ne0.false)
 
-returns-2 : tie.Need-returns-2
+returns-2 : tie.Need-returns-then-rows-offset
 returns-2 c =
     let accepted = passed c.before.before in
     let met = checked accepted in
     read_refused_lem (refusal 16 0) (omega arith) _ _ _
-    (read_short met.check.ensures accepted.if1.left (length (from-check met).args.rows.now) (search rules))
-    c.refused2.ensures
+    (read_short met.check-met.ensures accepted.if-met-ne0.false (length (from-check met).args.rows.now) (search rules))
+    c.refused-then-rows-offset.ensures
 
-copy-rows-requires : tie.Need-copy-rows-requires
+copy-rows-requires : tie.Need-copy_rows-requires
 copy-rows-requires c κs =
     let accepted = passed c.before.before in
-    let fit = rows_fit (checked accepted).check.ensures accepted.if1.left in
+    let fit = rows_fit (checked accepted).check-met.ensures accepted.if-met-ne0.false in
     (fit.0, fit.1, search rules)
 
-returns-3 : tie.Need-returns-3
+returns-3 : tie.Need-returns
 returns-3 c =
     let copied = c.before.before in
     let accepted = passed copied.before.before.before in
     let met = checked accepted in
-    read_done met.check.ensures accepted.if1.left (from-check met).args.rows.now copied.copy-rows.new.1.0
+    read_done met.check-met.ensures accepted.if-met-ne0.false (from-check met).args.rows.now copied.copy_rows.new.rows
     (search rules)
-    copied.copy-rows.ensures
+    copied.copy_rows.ensures
 
 pub read_spec : {M : Type 1} → statement M
 read_spec =

@@ -5,7 +5,7 @@ use Rattle.sflw.proofs.sflw_run.Statement.{statement}
 use Rattle.sflw.proofs.sflw_run.Tie as tie
 
 returns : tie.Need-returns
-returns c = told.ran c.before.before.before.before.run.ensures c.tell-run.ensures
+returns c = told.ran c.before.before.before.before.run-told.ensures c.tell_run.ensures
 
 pub sflw_run_spec : {M : Type 1} → statement M
 sflw_run_spec = tie.close (tie.spec (λ c κs. search rules) (λ c κs. search rules) (λ c. search rules) returns)

@@ -5,7 +5,7 @@ use Rattle.sflw.proofs.sflw_write.Statement.{statement}
 use Rattle.sflw.proofs.sflw_write.Tie as tie
 
 returns : tie.Need-returns
-returns c = told.written c.before.before.before.write.ensures
+returns c = told.written c.before.before.before.write-met.ensures
 
 pub sflw_write_spec : {M : Type 1} → statement M
 sflw_write_spec = tie.close (tie.spec (λ c κs. search rules) (λ c. search rules) returns)

@@ -6,19 +6,19 @@ use Rattle.sflw_held.proofs.run_and_tell.Statement.{statement}
 use Rattle.sflw_held.proofs.run_and_tell.Tie as tie
 
 -- where the function starts, as seen once the cells are counted
-abbrev from-count : tie.After-offset → tie.Start
+abbrev from-count : tie.After-offset-count → tie.Start
 from-count c = c.before.before.before.before
 
-slice-aggregate-run : tie.Need-slice-aggregate-run
+slice-aggregate-run : tie.Need-slice_bounds-run-end-2
 slice-aggregate-run c =
     let start = from-count c.before in
-    sym (part_length _ start.args.sizes start.requires.0.0 _ _ c.before.offset.ensures start.requires.1.0)
+    sym (part_length _ start.args.sizes start.requires.0.0 _ _ c.before.offset-count.ensures start.requires.1.0)
 
-run-requires : tie.Need-run-requires
+run-requires : tie.Need-run-told-requires
 run-requires c κs =
     let count = c.before.before in
     let start = from-count count in
-    (part_measures _ start.args.sizes start.requires.0.0 _ _ count.offset.ensures start.requires.1.0 start.requires.0.1, start.requires.1.1)
+    (part_measures _ start.args.sizes start.requires.0.0 _ _ count.offset-count.ensures start.requires.1.0 start.requires.0.1, start.requires.1.1)
 
 pub run_and_tell_spec : {M : Type 1} → statement M
 run_and_tell_spec =

@@ -3,10 +3,10 @@ use Rattle.std.proofs.Common.{◌-◌, ◌≤◌, rules}
 use Rattle.vectors.proofs.each_case.Statement.{statement}
 use Rattle.vectors.proofs.each_case.Tie as tie
 
-abbrev invariant-loop : tie.invariant-loop
+abbrev invariant-loop : tie.invariant-loop-index
 invariant-loop count tally₀ index₀ tally index = index ≤ count
 
-abbrev decreases-loop : tie.decreases-loop
+abbrev decreases-loop : tie.decreases-loop-index
 decreases-loop count tally₀ index₀ tally index = count - index
 
 pub each_case_spec : {M : Type 1} → statement M

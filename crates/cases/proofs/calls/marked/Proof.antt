@@ -4,10 +4,10 @@ use borrow.Author.Rules.{rules}
 use Rattle.cases.proofs.calls.marked.Statement.{statement}
 use Rattle.cases.proofs.calls.marked.Tie as tie
 
-abbrev invariant-loop : tie.invariant-loop
+abbrev invariant-loop : tie.invariant-loop-i
 invariant-loop bytes from to i₀ i = from ≤ i
 
-abbrev decreases-loop : tie.decreases-loop
+abbrev decreases-loop : tie.decreases-loop-i
 decreases-loop bytes from to i₀ i = to - i
 
 pub marked_spec : {M : Type 1} → statement M

@@ -6,10 +6,10 @@ use lib.ListN.{length}
 use Rattle.cases.proofs.calls.seal_all.Statement.{statement}
 use Rattle.cases.proofs.calls.seal_all.Tie as tie
 
-abbrev invariant-loop : tie.invariant-loop
+abbrev invariant-loop : tie.invariant-loop-from
 invariant-loop file₀ from₀ file from = (from ≤ length file₀) × (length file ≡ length file₀)
 
-abbrev decreases-loop : tie.decreases-loop
+abbrev decreases-loop : tie.decreases-loop-from
 decreases-loop file₀ from₀ file from = length file₀ - from
 
 pub seal_all_spec : {M : Type 1} → statement M

@@ -6,10 +6,10 @@ use lib.ListN.{length}
 use Rattle.cases.proofs.flows.over_and_over.Statement.{statement}
 use Rattle.cases.proofs.flows.over_and_over.Tie as tie
 
-abbrev invariant-loop : tie.invariant-loop
+abbrev invariant-loop : tie.invariant-loop-i
 invariant-loop rows₀ i₀ rows i = (144 ≤ i) × (length rows ≡ length rows₀)
 
-abbrev decreases-loop : tie.decreases-loop
+abbrev decreases-loop : tie.decreases-loop-i
 decreases-loop rows₀ i₀ rows i = length rows₀ - i
 
 pub over_and_over_spec : {M : Type 1} → statement M

@@ -5,10 +5,10 @@ use lib.ListN.{length}
 use Rattle.cases.proofs.say.each_byte.Statement.{statement}
 use Rattle.cases.proofs.say.each_byte.Tie as tie
 
-abbrev invariant-loop : tie.invariant-loop
+abbrev invariant-loop : tie.invariant-loop-i
 invariant-loop bytes i₀ i = i ≤ length bytes
 
-abbrev decreases-loop : tie.decreases-loop
+abbrev decreases-loop : tie.decreases-loop-i
 decreases-loop bytes i₀ i = length bytes - i
 
 pub each_byte_spec : {M : Type 1} → statement M

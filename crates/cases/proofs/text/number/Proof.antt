@@ -5,10 +5,10 @@ use lib.ListN.{length}
 use Rattle.cases.proofs.text.number.Statement.{statement}
 use Rattle.cases.proofs.text.number.Tie as tie
 
-abbrev invariant-loop : tie.invariant-loop
+abbrev invariant-loop : tie.invariant-loop-i
 invariant-loop digits so-far₀ i₀ so_far i = (i ≤ length digits) × (so_far.sum < 4294967296) × (so_far.last < 4294967296)
 
-abbrev decreases-loop : tie.decreases-loop
+abbrev decreases-loop : tie.decreases-loop-i
 decreases-loop digits so-far₀ i₀ so_far i = length digits - i
 
 pub number_spec : {M : Type 1} → statement M

@@ -5,10 +5,10 @@ use lib.ListN.{length}
 use Rattle.cases.proofs.words.each_line.Statement.{statement}
 use Rattle.cases.proofs.words.each_line.Tie as tie
 
-abbrev invariant-loop : tie.invariant-loop
+abbrev invariant-loop : tie.invariant-loop-from
 invariant-loop text rows from₀ from = from ≤ length text + 1
 
-abbrev decreases-loop : tie.decreases-loop
+abbrev decreases-loop : tie.decreases-loop-from
 decreases-loop text rows from₀ from = length text - from
 
 pub each_line_spec : {M : Type 1} → statement M

@@ -5,10 +5,10 @@ use lib.ListN.{length}
 use Rattle.cases.proofs.words.each_word.Statement.{statement}
 use Rattle.cases.proofs.words.each_word.Tie as tie
 
-abbrev invariant-loop : tie.invariant-loop
+abbrev invariant-loop : tie.invariant-loop-from
 invariant-loop words all rows₀ file₀ s₀ from₀ rows file s from = from ≤ length words + 1
 
-abbrev decreases-loop : tie.decreases-loop
+abbrev decreases-loop : tie.decreases-loop-from
 decreases-loop words all rows₀ file₀ s₀ from₀ rows file s from = length words - from
 
 pub each_word_spec : {M : Type 1} → statement M

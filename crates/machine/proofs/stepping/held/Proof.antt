@@ -30,84 +30,84 @@ advances m w row (suc (suc zero)) index h = refl
 advances m w row (suc (suc (suc zero))) index h = ends m w (writes (access_at row index)) (access_at row index).cell
 advances m w row (suc (suc (suc (suc stage)))) index h = refl
 
-returns : tie.Need-returns
-returns c = let a = c.before.before.args in advances _ a.w a.row.now a.stage a.index c.if1.true
+returns : tie.Need-returns-then-stage-ge2
+returns c = let a = c.before.before.args in advances _ a.w a.row.now a.stage a.index c.if-stage-ge2.true
 
 -- where the function starts, as seen from a wait; and that wait, once the cell is read
-abbrev from-wait : tie.Else1 → tie.Start
+abbrev from-wait : tie.Else-stage-ge2 → tie.Start
 from-wait c = c.before.before
 
-abbrev wait-of : tie.After-index → tie.Else1
+abbrev wait-of : tie.After-index-cell → tie.Else-stage-ge2
 wait-of c = c.before.before.before
 
 -- where the cell is read, as seen once the last writes differ, and once the reads do
-abbrev write-of : tie.Else3 → tie.After-index
+abbrev write-of : tie.Else-private-w → tie.After-index-cell
 write-of c = c.before.before.before.before
 
-abbrev reads_of : tie.Else4 → tie.After-index
+abbrev reads_of : tie.Else-private-w-2 → tie.After-index-cell
 reads_of c = c.before.before.before.before
 
 -- at a wait the index is one of an access, and its cell has a counter
-known : (c : tie.Else1)
+known : (c : tie.Else-stage-ge2)
     → ((from-wait c).args.index < most_accesses) × ((access_at (from-wait c).args.row.now (from-wait c).args.index).cell < most_cells)
-known c = (from-wait c).requires.1 c.if1.false
+known c = (from-wait c).requires.1 c.if-stage-ge2.false
 
 -- the cell that is read
-cell-is : (c : tie.After-index)
-    → c.index.result ≡ get_or (from-wait (wait-of c)).args.row.now (4 + 2 * (from-wait (wait-of c)).args.index) 0
-cell-is c = rw c.before.before.offset.ensures at c.index.ensures.0
+cell-is : (c : tie.After-index-cell)
+    → c.index-cell.result ≡ get_or (from-wait (wait-of c)).args.row.now (4 + 2 * (from-wait (wait-of c)).args.index) 0
+cell-is c = rw c.before.before.offset-at.ensures at c.index-cell.ensures.0
 
-within : (c : tie.After-index) → c.index.result < most_cells
+within : (c : tie.After-index-cell) → c.index-cell.result < most_cells
 within c = rw (cell-is c) (known (wait-of c)).1
 
-shared-slice-read-index : tie.Need-shared-slice-read-index
+shared-slice-read-index : tie.Need-bounds-row-at
 shared-slice-read-index c = omega (arith, (known c.before.before).0)
 
-index-2-if3 : tie.Need-bounds-2-if3
+index-2-if3 : tie.Need-bounds-private-cell
 index-2-if3 c = within c.before
 
-index-1-if3-2 : tie.Need-bounds-1-if3-2
+index-1-if3-2 : tie.Need-bounds-shared-cell
 index-1-if3-2 c = within c.before.before
 
-returns-2 : tie.Need-returns-2
+returns-2 : tie.Need-returns-then-private-w
 unfolding outcome try_at
 returns-2 c =
     let read = c.before.before.before.before in
-    rw (c.before.before.before.if2.true, ← cell-is read, eq-eqb _ _ c.if3.true)
+    rw (c.before.before.before.if-stage-eq0.true, ← cell-is read, eq-eqb _ _ c.if-private-w.true)
 
-shared-slice-read-wide : tie.Need-shared-slice-read-wide
+shared-slice-read-wide : tie.Need-bounds-row-at-then-stage-eq0
 shared-slice-read-wide c = omega (arith, (known (wait-of (write-of c.before))).0)
 
-returns-3 : tie.Need-returns-3
+returns-3 : tie.Need-returns-then-stage-eq0
 unfolding outcome try_at
 returns-3 c =
     let tested = c.before.before in
     let read = write-of tested in
-    rw (tested.before.before.before.if2.true, ← cell-is read, ne_eqb _ _ tested.if3.false, c.wide.ensures.0, read.index.ensures.0)
+    rw (tested.before.before.before.if-stage-eq0.true, ← cell-is read, ne_eqb _ _ tested.if-private-w.false, c.wide.ensures.0, read.index-cell.ensures.0)
 
-index-2-if4 : tie.Need-bounds-2-if4
+index-2-if4 : tie.Need-bounds-private-cell-else-stage-eq0
 index-2-if4 c = within c.before
 
-index-1-if4-2 : tie.Need-bounds-1-if4-2
+index-1-if4-2 : tie.Need-bounds-shared-cell-else-stage-eq0
 index-1-if4-2 c = within c.before.before
 
-returns-4 : tie.Need-returns-4
+returns-4 : tie.Need-returns-then-private-w-2
 unfolding outcome try_at
 returns-4 c =
     let read = c.before.before.before.before in
     let one : (from-wait (wait-of read)).args.stage ≡ 1 = omega arith in
-    rw (one, ← cell-is read, eq-eqb _ _ c.if4.true)
+    rw (one, ← cell-is read, eq-eqb _ _ c.if-private-w-2.true)
 
-shared-slice-read-wide-2 : tie.Need-shared-slice-read-wide-2
+shared-slice-read-wide-2 : tie.Need-bounds-row-at-2
 shared-slice-read-wide-2 c = omega (arith, (known (wait-of (reads_of c.before))).0)
 
-returns-5 : tie.Need-returns-5
+returns-5 : tie.Need-returns
 unfolding outcome try_at
 returns-5 c =
     let tested = c.before.before in
     let read = reads_of tested in
     let one : (from-wait (wait-of read)).args.stage ≡ 1 = omega arith in
-    rw (one, ← cell-is read, ne_eqb _ _ tested.if4.false, c.wide2.ensures.0, read.index.ensures.0)
+    rw (one, ← cell-is read, ne_eqb _ _ tested.if-private-w-2.false, c.wide-2.ensures.0, read.index-cell.ensures.0)
 
 pub held_spec : {M : Type 1} → statement M
 held_spec =

@@ -6,13 +6,13 @@ use borrow.Author.Rules.{rules}
 use Rattle.measure.proofs.turns.next_turn.Statement.{statement}
 use Rattle.measure.proofs.turns.next_turn.Tie as tie
 
-returns : tie.Need-returns
-returns c = rw (lt-ltb _ _ c.if2.true)
+returns : tie.Need-returns-then-w-workers
+returns c = rw (lt-ltb _ _ c.if-w-workers.true)
 
-returns-2 : tie.Need-returns-2
-returns-2 c = rw (le-ltb _ _ c.if2.false)
+returns-2 : tie.Need-returns-else-w-workers
+returns-2 c = rw (le-ltb _ _ c.if-w-workers.false)
 
-returns-3 : tie.Need-returns-3
+returns-3 : tie.Need-returns-else-w-lt255
 returns-3 c = rw (le-ltb (c.before.args.w + 1) c.before.args.workers (omega (arith, c.before.ranges.workers)))
 
 pub next_turn_spec : {M : Type 1} → statement M

@@ -9,41 +9,41 @@ use Rattle.run.proofs.plainly.plain.Statement.{statement}
 use Rattle.run.proofs.plainly.plain.Tie as tie
 
 -- where the function starts, as seen after the check; and the check, as seen once it is passed
-abbrev from-check : tie.After-check → tie.Start
+abbrev from-check : tie.After-check-met → tie.Start
 from-check c = c.before.before.before
 
-abbrev checked : tie.Else1 → tie.After-check
+abbrev checked : tie.Else-met-ne0 → tie.After-check-met
 checked c = c.before.before
 
-returns : tie.Need-returns
+returns : tie.Need-returns-then-met-ne0
 returns c =
     let met = c.before.before in
     let a = (from-check met).args in
-    plain_refused a.file.now a.cells.now (refusal met.check.result.number met.check.result.place) c.if1.true
-    (file_refused met.check.ensures a.cells.now c.if1.true)
+    plain_refused a.file.now a.cells.now (refusal met.check-met.result.number met.check-met.result.place) c.if-met-ne0.true
+    (file_refused met.check-met.ensures a.cells.now c.if-met-ne0.true)
 
-returns-2 : tie.Need-returns-2
+returns-2 : tie.Need-returns-then-cells-offset
 returns-2 c =
     let accepted = c.before.before in
     let met = checked accepted in
     let a = (from-check met).args in
     plain_refused a.file.now a.cells.now (refusal 12 0) (λ none. omega arith)
-    (cells_refused met.check.ensures a.cells.now accepted.if1.false (λ e. c.if2.true (e ∙ sym c.before.offset.ensures)))
+    (cells_refused met.check-met.ensures a.cells.now accepted.if-met-ne0.false (λ e. c.if-cells-offset.true (e ∙ sym c.before.offset.ensures)))
 
-plain-tasks-requires : tie.Need-plain-tasks-requires
+plain-tasks-requires : tie.Need-plain_tasks-requires
 plain-tasks-requires c κs =
     let accepted = c.before.before.before in
-    ready (checked accepted).check.ensures accepted.if1.false _ (c.before.if2.false ∙ c.before.before.offset.ensures)
+    ready (checked accepted).check-met.ensures accepted.if-met-ne0.false _ (c.before.if-cells-offset.false ∙ c.before.before.offset.ensures)
 
-returns-3 : tie.Need-returns-3
+returns-3 : tie.Need-returns
 returns-3 c =
     let done = c.before.before in
     let sized = done.before.before in
     let accepted = sized.before.before in
     let met = checked accepted in
-    plain_done met.check.ensures (from-check met).args.cells.now accepted.if1.false _
-    (sized.if2.false ∙ sized.before.offset.ensures)
-    done.plain-tasks.ensures
+    plain_done met.check-met.ensures (from-check met).args.cells.now accepted.if-met-ne0.false _
+    (sized.if-cells-offset.false ∙ sized.before.offset.ensures)
+    done.plain_tasks.ensures
 
 pub plain_spec : {M : Type 1} → statement M
 plain_spec =

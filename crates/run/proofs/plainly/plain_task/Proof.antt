@@ -11,16 +11,16 @@ use Rattle.run.proofs.OneByOne.{can_operate, operation_next, operations_end}
 use Rattle.run.proofs.plainly.plain_task.Statement.{statement}
 use Rattle.run.proofs.plainly.plain_task.Tie as tie
 
-abbrev invariant-loop : tie.invariant-loop
+abbrev invariant-loop : tie.invariant-loop-i
 invariant-loop version row cells₀ count i₀ cells i =
     (i ≤ count) × (count ≡ get_or row 2 0) × (length cells ≡ length cells₀)
     × (after_operations (effect version) (task_of row).operations cells₀ ≡ after_operations (effect version) (drop i (task_of row).operations) cells)
 
-abbrev decreases-loop : tie.decreases-loop
+abbrev decreases-loop : tie.decreases-loop-i
 decreases-loop version row cells₀ count i₀ cells i = count - i
 
 -- where the function starts, as seen from the head of the loop
-abbrev from-loop : tie.At-loop invariant-loop decreases-loop → tie.Start invariant-loop decreases-loop
+abbrev from-loop : tie.At-loop-i invariant-loop decreases-loop → tie.Start invariant-loop decreases-loop
 from-loop c = c.before.before.before.before.before
 
 operate-requires : tie.Need-operate-requires invariant-loop decreases-loop
@@ -28,17 +28,17 @@ operate-requires c κs =
     let head = c.before.before in
     let start = from-loop head in
     let a = start.args in
-    let inv = head.loop.invariant in
-    can_operate a.row.now a.cells.now head.loop.cells head.loop.i _ start.requires c.before.loop-test.true inv.1 inv.2
+    let inv = head.loop-i.invariant in
+    can_operate a.row.now a.cells.now head.loop-i.cells head.loop-i.i _ start.requires c.before.loop-i-test.true inv.1 inv.2
 
-loop-again : tie.Need-loop-preserved invariant-loop decreases-loop
+loop-again : tie.Need-loop-i-preserved invariant-loop decreases-loop
 unfolding task_of
 loop-again c =
     let made = c.before.before in
     let head = made.before.before.before in
     let version = (from-loop head).args.version in
     let row = (from-loop head).args.row.now in
-    let l = head.loop in (
+    let l = head.loop-i in (
       search rules,
       search rules,
       search rules,
@@ -51,8 +51,8 @@ unfolding task_of
 returns c =
     let version = (from-loop c.before).args.version in
     let row = (from-loop c.before).args.row.now in
-    let inv = c.before.loop.invariant in
-    operations_end (effect version) (get_or row 2 0) (operation_at row) c.before.loop.i _ c.before.loop.cells (search rules) inv.3
+    let inv = c.before.loop-i.invariant in
+    operations_end (effect version) (get_or row 2 0) (operation_at row) c.before.loop-i.i _ c.before.loop-i.cells (search rules) inv.3
 
 pub plain_task_spec : {M : Type 1} → statement M
 plain_task_spec =

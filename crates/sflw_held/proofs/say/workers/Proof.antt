@@ -4,10 +4,10 @@ use borrow.Author.Rules.{rules}
 use Rattle.sflw_held.proofs.say.workers.Statement.{statement}
 use Rattle.sflw_held.proofs.say.workers.Tie as tie
 
-abbrev invariant-loop : tie.invariant-loop
+abbrev invariant-loop : tie.invariant-loop-w
 invariant-loop count told w₀ w = w ≤ count
 
-abbrev decreases-loop : tie.decreases-loop
+abbrev decreases-loop : tie.decreases-loop-w
 decreases-loop count told w₀ w = count - w
 
 pub workers_spec : {M : Type 1} → statement M

@@ -3,10 +3,10 @@ use Rattle.std.proofs.Common.{◌-◌, ◌≤◌, rules}
 use Rattle.vectors.proofs.calls.answered.Statement.{statement}
 use Rattle.vectors.proofs.calls.answered.Tie as tie
 
-abbrev invariant-loop : tie.invariant-loop
+abbrev invariant-loop : tie.invariant-loop-i
 invariant-loop returned words all₀ i₀ all i = i ≤ 25
 
-abbrev decreases-loop : tie.decreases-loop
+abbrev decreases-loop : tie.decreases-loop-i
 decreases-loop returned words all₀ i₀ all i = 25 - i
 
 pub answered_spec : {M : Type 1} → statement M

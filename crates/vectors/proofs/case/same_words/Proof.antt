@@ -3,10 +3,10 @@ use Rattle.std.proofs.Common.{◌-◌, ◌≤◌, rules}
 use Rattle.vectors.proofs.case.same_words.Statement.{statement}
 use Rattle.vectors.proofs.case.same_words.Tie as tie
 
-abbrev invariant-loop : tie.invariant-loop
+abbrev invariant-loop : tie.invariant-loop-i
 invariant-loop words stored i₀ i = i ≤ 25
 
-abbrev decreases-loop : tie.decreases-loop
+abbrev decreases-loop : tie.decreases-loop-i
 decreases-loop words stored i₀ i = 25 - i
 
 pub same_words_spec : {M : Type 1} → statement M

@@ -3,10 +3,10 @@ use Rattle.std.proofs.Common.{◌≡◌, ◌-◌, ◌≤◌, length, rules}
 use Rattle.vectors.proofs.numbers.put_all.Statement.{statement}
 use Rattle.vectors.proofs.numbers.put_all.Tie as tie
 
-abbrev invariant-loop : tie.invariant-loop
+abbrev invariant-loop : tie.invariant-loop-i
 invariant-loop values bytes₀ i₀ bytes i = (i ≤ length values) × (length bytes ≡ length bytes₀)
 
-abbrev decreases-loop : tie.decreases-loop
+abbrev decreases-loop : tie.decreases-loop-i
 decreases-loop values bytes₀ i₀ bytes i = length values - i
 
 pub put_all_spec : {M : Type 1} → statement M

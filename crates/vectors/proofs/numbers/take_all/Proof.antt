@@ -3,10 +3,10 @@ use Rattle.std.proofs.Common.{◌≡◌, ◌-◌, ◌≤◌, length, rules}
 use Rattle.vectors.proofs.numbers.take_all.Statement.{statement}
 use Rattle.vectors.proofs.numbers.take_all.Tie as tie
 
-abbrev invariant-loop : tie.invariant-loop
+abbrev invariant-loop : tie.invariant-loop-i
 invariant-loop bytes values₀ i₀ values i = (i ≤ length values₀) × (length values ≡ length values₀)
 
-abbrev decreases-loop : tie.decreases-loop
+abbrev decreases-loop : tie.decreases-loop-i
 decreases-loop bytes values₀ i₀ values i = length values₀ - i
 
 pub take_all_spec : {M : Type 1} → statement M

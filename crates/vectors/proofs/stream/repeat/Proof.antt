@@ -3,10 +3,10 @@ use Rattle.std.proofs.Common.{◌≡◌, ◌-◌, ◌≤◌, length, rules}
 use Rattle.vectors.proofs.stream.repeat.Statement.{statement}
 use Rattle.vectors.proofs.stream.repeat.Tie as tie
 
-abbrev invariant-loop : tie.invariant-loop
+abbrev invariant-loop : tie.invariant-loop-i
 invariant-loop room₀ first end i₀ room i = (first ≤ i) × (length room ≡ length room₀)
 
-abbrev decreases-loop : tie.decreases-loop
+abbrev decreases-loop : tie.decreases-loop-i
 decreases-loop room₀ first end i₀ room i = end - i
 
 pub repeat_spec : {M : Type 1} → statement M
