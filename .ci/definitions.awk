@@ -1,4 +1,5 @@
-# The definitions in .antt, .rt and .h files, one a line: its file, and its name, which is "fn name" of a function and Type::name in an impl.
+# The definitions in .antt, .rt and .h files, one a line: its file, and its name, which is "fn name" of a function and Type::name in an impl,
+# and in a function's own proof also "fact name" of each fact that it shows.
 
 function say(name) { print FILENAME "\t" name }
 
@@ -15,6 +16,14 @@ function of_antt(s) {
   if (s ~ /^(--|use |let |module |mod |unfolding )/) return
   if (s ~ /^(record|data) [^{]/) { sub(/^[a-z]+ /, "", s); sub(/ .*/, "", s); say(s) }
   else if (match(s, /^[^ ():={}]+( [^ ():={}]+)* :( |$)/)) signature(substr(s, 1, RLENGTH))
+}
+
+# a line of a function's own proof: the fact whose answer begins there
+function of_proof(s) {
+  if (!match(s, /(tie\.Need-|goal\.)[^ ]+/)) return
+  s = substr(s, RSTART, RLENGTH)
+  sub(/^(tie\.Need-|goal\.)/, "", s)
+  say("fact " s)
 }
 
 # the first word after the first, without what hangs on it
@@ -55,6 +64,7 @@ FNR == 1 { owner = body = "" }
 {
   line = $0
   sub(/^ +/, "", line)
+  if (FILENAME ~ /\/(Proof|Answers|Invariants)\.antt$/) of_proof(line)
   if (FILENAME ~ /\.antt$/) of_antt(line)
   else if (FILENAME ~ /\.rt$/) of_rt(line)
   else of_header(line)
