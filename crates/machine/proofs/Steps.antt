@@ -2,15 +2,12 @@
 -- the next place, and one that is held stores nothing; a task of another owner is noted access by access and gone past.
 use mathlib.Core.Path.{◌≡◌, refl, sym, ap, subst, ◌∙◌}
 use mathlib.Core.Bool.{Bool, true, false, cond, true≢false}
-use mathlib.Core.Logic.{⊎_elim}
 use mathlib.Core.List.{List, [], ◌∷◌}
 use Prim.Native.Nat.{ℕ, ◌+◌, ◌<◌, ◌≤◌}
 use native.Mathlib.Omega.{arith}
 use borrow.Author.Tests.{eq-eqb, ne_eqb}
 use lib.ListN.{length, get_or, set, drop, length-set}
 use lib.Dec.{eqb}
-use types.Run.{OneOf}
-use denote.Enum.Declared.{tag_of}
 use Rattle.layout.specs.Flow.{Access, Task, most_workers, most_cells}
 use Rattle.layout.specs.Row.{task_of}
 use Rattle.layout.specs.File.{row_at, tasks_in}
@@ -25,7 +22,6 @@ use Rattle.arrays.proofs.Changes.{ChangedBy}
 use Rattle.machine.specs.declared.Outcome as Code
 use Rattle.machine.specs.declared.Outcome.TheVariants.{Advanced, PastLast, WriteDiffers, ReadsDiffer}
 use Rattle.machine.specs.Outcomes.{outcome_of}
-use Rattle.machine.specs.contracts.Outcome.{the_type}
 
 -- ---- an own step
 

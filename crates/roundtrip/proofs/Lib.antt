@@ -1,4 +1,4 @@
--- The reader and the writer undo one another. Theorems holds the statements, the other modules the facts they rest on.
+-- The reader and the writer undo one another. Theorems and Exactly hold the statements, the other modules the facts they rest on.
 pub mod Parts
 pub mod Pieces
 pub mod Below
@@ -14,3 +14,4 @@ pub mod Read
 pub mod Accepted
 pub mod Retired
 pub mod Theorems
+pub mod Exactly

@@ -9,7 +9,7 @@ use borrow.Author.Tests.{eqb-true, leb-true, ltb-true}
 use lib.ListN.{length, take, drop, length-drop, take-append-drop}
 use lib.Seq.{take_all, drop-drop}
 use Rattle.layout.specs.Lists.{each, all, joined}
-use Rattle.layout.specs.Bytes.{IsBytes, at, word, part, all_zero, padded}
+use Rattle.layout.specs.Bytes.{IsBytes, at, part, all_zero, padded}
 use Rattle.layout.specs.Flow.{most_accesses, most_operations}
 use Rattle.layout.specs.Row.{access_at, operation_at, spare_at, task_of, access_bytes, operation_bytes, row_of}
 use Rattle.layout.specs.Row.{access_in_range, accesses_sound, named_once, operation_in_range, operation_sound, operations_sound}

@@ -1,10 +1,9 @@
--- The reader and the writer undo one another where no task has operation 6, and the files without it that the reader accepts are exactly
--- those that the writer makes. For a file of accepted rows keeps every rule (Written), and the rules leave no byte of an accepted file free but its
--- rows (Read), nor any byte of an accepted row but those that its task holds (Rows, Accepted); and of what is read, the writer can meet rule 18
--- alone (Retired).
-use mathlib.Core.Path.{◌≡◌, sym, ap}
+-- The reader and the writer undo one another where no task has operation 6; so the files without it that the reader accepts are exactly
+-- those that the writer makes (Exactly). For a file of accepted rows keeps every rule (Written), and the rules leave no byte of an accepted
+-- file free but its rows (Read), nor any byte of an accepted row but those that its task holds (Rows, Accepted); and of what is read, the
+-- writer can meet rule 18 alone (Retired).
+use mathlib.Core.Path.{◌≡◌, ap}
 use mathlib.Core.Bool.{true, false}
-use mathlib.Core.Logic.{◌↔◌}
 use mathlib.Core.List.{List}
 use Prim.Native.Nat.{ℕ}
 use Rattle.layout.specs.Bytes.{IsBytes}
@@ -68,22 +67,7 @@ pub writer_refuses : (file : List ℕ) → file_answer file ≡ success → with
     × (rows_answer (rows_of file) (version_of file) (workers_of file) (cells_of file) ≡ refusal 18 task)
 writer_refuses file h some = Retired.first_refused file (file_keeps file (ap (λ (a : Answer). a.number) h)) some
 
--- ---- 3. The accepted files without operation 6 are exactly those that the writer makes of rows that it accepts
-
-pub accepted_exactly : (file : List ℕ) → IsBytes file
-    → ((file_answer file ≡ success) × (without_larger (flow_of file) ≡ true))
-    ↔ ((rows : List ℕ) × (version : ℕ) × (workers : ℕ) × (cells : ℕ) × IsBytes rows × (rows_answer rows version workers cells ≡ success)
-    × (file ≡ file_of version (row_count rows) workers cells rows))
-accepted_exactly file bytes = (
-  (λ h.
-      let back = writer_after_reader file bytes h.0 h.1 in
-      (rows_of file, version_of file, workers_of file, cells_of file, Read.rows_bytes file bytes, back.0, sym back.1)),
-  (λ made.
-      let back = reader_after_writer made.0 made.1 made.2 made.3 made.5 in
-      rw made.6 (back.succeeds, back.no_larger)),
-)
-
--- ---- 4. A file is accepted as a flow whose bytes are the file, and whose rows are the file's
+-- ---- 3. A file is accepted as a flow whose bytes are the file, and whose rows are the file's
 
 pub flow_bytes_lem : (file : List ℕ) (flow : Flow) → IsBytes file → check file ≡ accepted flow
     → (flow_bytes flow ≡ file) × (flow_rows flow ≡ rows_of file)
@@ -91,7 +75,7 @@ flow_bytes_lem file flow bytes h =
     let k = Accepted.accepted_kept file flow h in
     rw (← Accepted.accepted_flow file flow h) (Accepted.bytes_of_flow file k bytes, Accepted.rows_of_flow file k bytes)
 
--- ---- 5. The flow that a file is accepted as is of a known version and within the limits, and each of its tasks keeps the rules
+-- ---- 4. The flow that a file is accepted as is of a known version and within the limits, and each of its tasks keeps the rules
 
 pub accepted_sound : (file : List ℕ) (flow : Flow) → check file ≡ accepted flow → Sound flow
 accepted_sound file flow h =

@@ -8,7 +8,6 @@ use lib.ListN.{length, take, drop}
 use lib.Seq.{take_all}
 use lib.Dec.{lit<}
 use Rattle.layout.specs.Lists.{each, joined}
-use Rattle.layout.specs.Bytes.{at}
 use Rattle.layout.specs.Refusal.{success}
 use Rattle.layout.specs.Row.{task_of, retired_in_reader}
 use Rattle.layout.specs.Block.{blocks_for, rows_in, block_of}

@@ -12,7 +12,7 @@ use Rattle.steps.specs.Step.{Setting}
 use Rattle.steps.specs.Conflict.{task_at, Conflict, AllKeep}
 use Rattle.steps.proofs.Kind.{Kind, none, read, write, full}
 use Rattle.steps.proofs.Naming.{kind_of, naming, writing, kind_names, kind_writes}
-use Rattle.steps.proofs.OnCell.{stage, waited}
+use Rattle.steps.proofs.OnCell.{waited}
 use Rattle.steps.proofs.Sides.{wait_steps, ends_from, waits_made, ends_after}
 use Rattle.steps.proofs.Protocol.{inv_order}
 use Rattle.steps.proofs.Protocol.Words.{Acquired, InConflict}

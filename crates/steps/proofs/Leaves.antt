@@ -7,7 +7,7 @@ use Rattle.layout.specs.Flow.{Operation}
 use Rattle.steps.specs.Operations.{operated}
 use Rattle.steps.specs.Machine.{Machine}
 use Rattle.steps.specs.Step.{Setting, Try, wait_write, wait_reads, operate, end_read, zero_reads, post_write, change, Stepped, step}
-use Rattle.steps.specs.History.{Entry, made, next_operation, made_by, after_history}
+use Rattle.steps.specs.History.{Entry, next_operation, made_by, after_history}
 use Rattle.steps.proofs.Places.{facing, PlaceFits, Trying, after_own, StepView, past, other, held, view, on_write, on_reads}
 use Rattle.steps.proofs.Sides.{operation_place}
 use Rattle.steps.proofs.History.{adds_own, adds_none_past, adds_none_other}

@@ -1,5 +1,5 @@
 -- `filler::fill` meets its contract: head, rows and check, each in its part, are the block.
-use Rattle.std.proofs.Common.{◌≡◌, ◌++◌, ◌+◌, ◌*◌, ℕ, List, ap, sym, ◌∙◌, take, drop, length, length-take, arith, refl}
+use Rattle.std.proofs.Common.{◌≡◌, ◌++◌, ◌+◌, ◌*◌, ℕ, List, ap, sym, ◌∙◌, take, drop, length, length-take, arith}
 use lib.Seq.{take_all}
 use Rattle.filler.proofs.Parts.{filled}
 use Rattle.filler.proofs.fill.Goals as goal

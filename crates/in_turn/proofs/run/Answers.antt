@@ -1,5 +1,5 @@
 -- `in_turn::run` meets its contract: the run is made under the schedule that names all workers in turn, the total times over, and so it has finished.
-use Rattle.std.proofs.Common.{◌≡◌, ◌*◌, ◌≤◌, ℕ, List, length, take, sym, ap₂, subst, ◌∙◌, arith}
+use Rattle.std.proofs.Common.{◌*◌, ◌≤◌, ℕ, List, sym, ap₂, subst, ◌∙◌, arith}
 use lib.Seq.{length-take-le}
 use Rattle.layout.specs.Flow.{most_workers}
 use Rattle.layout.specs.File.{flow_of}

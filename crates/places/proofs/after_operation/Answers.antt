@@ -1,5 +1,4 @@
 -- `places::after_operation` meets its contract: the code makes the same test as the rule has at stage 2.
-use Rattle.std.proofs.Common.{rules}
 use borrow.Author.Tests.{lt-ltb, le-ltb}
 use Rattle.arrays.specs.Arrays.{next_place}
 use Rattle.places.proofs.after_operation.Goals as goal

@@ -1,10 +1,7 @@
 -- `machine::stepping::own_step` meets its contract: an own step that advances is changed and moved on as the rules say, and one
 -- that is held stores nothing.
-use Rattle.std.proofs.Common.{◌≡◌, ◌+◌, ◌<◌, ℕ, List, [], length, get_or, ap, arith}
-use Rattle.layout.specs.Flow.{most_cells, most_tasks, most_accesses, most_workers}
-use Rattle.layout.specs.Row.{access_at}
-use Rattle.layout.specs.File.{row_start}
-use Rattle.arrays.specs.Arrays.{Arrays, arrays, stage_at, index_at, RowFits, Stands}
+use Rattle.std.proofs.Common.{length, ap, arith}
+use Rattle.arrays.specs.Arrays.{arrays}
 use Rattle.arrays.proofs.Changes.{five_stages, small_access, small_index}
 use Rattle.machine.specs.Outcomes.{outcome_of}
 use Rattle.machine.proofs.Steps.{stays, own_step_made, own_step_held}

@@ -1,7 +1,7 @@
 -- `turns::in_turn` meets its contract. The invariant: the bytes passed name the workers in turn, and the next is at hand.
 use mathlib.Core.Path.{◌≡◌, refl, sym, ap, ◌∙◌}
 use mathlib.Core.List.{◌++◌}
-use Prim.Native.Nat.{◌+◌, ◌≤◌, ◌-◌}
+use Prim.Native.Nat.{◌≤◌, ◌-◌}
 use native.Mathlib.Numerals.{add-one}
 use borrow.Author.Rules.{rules}
 use lib.ListN.{length, drop}
