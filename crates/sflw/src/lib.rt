@@ -100,12 +100,7 @@ fn tell_run(told: RunAnswer, answer: &mut [u32; 25])
 }
 
 // Runs a flow under a schedule.
-pub fn sflw_run(
-    file: &[u8],
-    cells: &mut [u32],
-    schedule: &[u8],
-    answer: &mut [u32; 25],
-) -> u32
+pub fn sflw_run(file: &[u8], cells: &mut [u32], schedule: &[u8], answer: &mut [u32; 25]) -> u32
     ensures { Ran file.now cells.old schedule.now result cells.new answer.new }
 {
     let told = run::run(file, cells, schedule);
