@@ -17,7 +17,7 @@ function look(w) {
   if (w ~ /^(\.\/sflw|\.ci\/|rt |test\/run\.sh )/) return "command"
   if (w ~ / /) return "literal"
   if (w ~ /^[A-Za-z0-9_]+(::[A-Za-z0-9_]+)+$/) return "call"
-  if (w ~ /^(returns|loop-holds|loop-again|.*-requires)(-[0-9]+)?$/) return "fact"
+  if (w ~ /^returns(-|$)|^loop-.*-(init|preserved|smaller)|-requires(-|$)|^(overflow|nonzero)_[a-z]+-|^(slice_|offset_)?bounds-|^invariant_of-/) return "fact"
   if (is_label(w)) return "label"
   return is_path(w) ? "path" : "name"
 }

@@ -1,4 +1,5 @@
-# The definitions in .antt, .rt and .h files, one a line: its file, and its name, which is "fn name" of a function and Type::name in an impl.
+# The definitions in .antt, .rt and .h files, one a line: its file, and its name, which is "fn name" of a function, Type::name in an impl, and
+# "fact name" of a fact that a function's own proof shows, by the check's name for it.
 
 function say(name) { print FILENAME "\t" name }
 
@@ -15,6 +16,14 @@ function of_antt(s) {
   if (s ~ /^(--|use |let |module |mod |unfolding )/) return
   if (s ~ /^(record|data) [^{]/) { sub(/^[a-z]+ /, "", s); sub(/ .*/, "", s); say(s) }
   else if (match(s, /^[^ ():={}]+( [^ ():={}]+)* :( |$)/)) signature(substr(s, 1, RLENGTH))
+}
+
+# a line of a function's own proof at which the answer to a fact begins
+function of_fact(s) {
+  match(s, /(tie\.Need-|goal\.)[^ ]+/)
+  s = substr(s, RSTART, RLENGTH)
+  sub(/^(tie\.Need-|goal\.)/, "", s)
+  say("fact " s)
 }
 
 # the first word after the first, without what hangs on it
@@ -55,7 +64,8 @@ FNR == 1 { owner = body = "" }
 {
   line = $0
   sub(/^ +/, "", line)
-  if (FILENAME ~ /\.antt$/) of_antt(line)
+  if (FILENAME ~ /\/(Proof|Answers|Invariants)\.antt$/ && line ~ /(tie\.Need-|goal\.)/) of_fact(line)
+  else if (FILENAME ~ /\.antt$/) of_antt(line)
   else if (FILENAME ~ /\.rt$/) of_rt(line)
   else of_header(line)
 }

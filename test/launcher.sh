@@ -51,32 +51,37 @@ asked() {
 
 # ---- the small tree
 
-# A stand-in for rt. It takes a crate for proved unless it has a file src/fault, and a crate's src/main.rt for its program.
+# A stand-in for rt, in a crate's folder. It takes a crate for proved unless it has a file src/fault, and a crate's src/main.rt for its
+# program, which it runs. Where a file says that another works there, it says that it waits. And a stand-in for the emulator.
 stand_in() {
     mkdir -p "$room/kit/bin"
     echo "stand-in 1" >"$room/kit/KIT-ID"
+    printf '#!/bin/sh\necho emulated >&2\nshift 3\nexec "$@"\n' >"$room/kit/bin/qemu-x86_64"
     cat >"$room/kit/bin/rt" <<'TEXT'
 #!/usr/bin/env bash
-echo "$*" >>"$ASKED"
-verb=$1
-mkdir -p target/rlib target/bin target/staticlib target/sums
-for name in low "${@:2}"; do
-    sum=$(cat "crates/$name"/src/* | cksum)
-    if [ "$sum" = "$(cat "target/sums/$name" 2>/dev/null)" ]; then
-        echo "rt: $name proved (unchanged since it was last proved)"
-        continue
-    fi
+own=${PWD##*/}
+echo "$1 $own" >>"$ASKED"
+[ "$1" != run ] || exec 3>&1 1>&2
+[ ! -e out/busy ] || { echo "rt: waiting for another rt to finish in $PWD" >&2; rm out/busy; }
+sleep "${QUIET:-0}"
+for name in low "$own"; do
+    out=../$name/out
+    mkdir -p "$out/rlib"
+    sum=$(cat "../$name"/src/* | cksum)
+    [ "$sum" != "$(cat "$out/sum" 2>/dev/null)" ] || continue
+    echo "rt: chose --jobs 2 for $name"
     sleep "${SLOW:-0}"
-    if [ -e "crates/$name/src/fault" ]; then echo "rt: $name NOT PROVED (exit 1, 0 s)"; exit 1; fi
-    if [ -e "crates/$name/src/main.rt" ]; then install "crates/$name/src/main.rt" "target/bin/$name"; else touch "target/rlib/$name.rlib"; fi
-    echo "$sum" >"target/sums/$name"
-    echo "rt: $name proved (0 s)"
+    if [ -e "../$name/src/fault" ]; then echo "fn $name::fault: not proved"; exit 1; fi
+    if [ "$name" != "$own" ]; then mkdir -p "$out/rlib/$name.rlib"
+    elif [ "$1" = run ]; then install "src/main.rt" "out/$name"
+    else echo library >"out/lib$name.a"; fi
+    echo "$sum" >"$out/sum"
+    echo "logic=proved functions=1"
 done
-[ "$verb" != staticlib ] || echo library >target/staticlib/libsflw.a
+[ "$1" != run ] || "out/$own" >&3
 TEXT
-    chmod +x "$room/kit/bin/rt"
+    chmod +x "$room/kit/bin/"*
     export PATH="$room/kit/bin:$PATH" ASKED="$asked"
-    unset RATTLE_HOME
 }
 
 # A program: it answers by the first line of its input, and writes a line where it has none.
@@ -104,7 +109,7 @@ plant() {
     mkdir -p "$tree/include"
     cp "$top/sflw" "$tree/"
     cp "$top/include/sflw.h" "$tree/include/"
-    printf '# a tree: for the launcher\nlow:\nother: low\nsflw: low\n' >"$tree/crates.txt"
+    printf '# a tree: for the launcher\nlow:\nother: low\nsflw_c staticlib: low\n' >"$tree/crates.txt"
     for name in sflw_run "${others[@]/#/sflw_}" "${worked[@]}"; do
         echo "$name : low io # a program" >>"$tree/crates.txt"
         mkdir -p "$tree/crates/$name/src"
@@ -114,7 +119,7 @@ plant() {
     for name in "${others[@]}"; do
         sed -i "s/\"ran /\"$name /" "$tree/crates/sflw_$name/src/main.rt"
     done
-    for name in low other sflw; do
+    for name in low other sflw_c; do
         mkdir -p "$tree/crates/$name/src" "$tree/crates/$name/must-fail"
         echo 1 | tee "$tree/crates/$name/src/lib.rt" >"$tree/crates/$name/src/more.rt"
     done
@@ -147,9 +152,12 @@ statuses() {
         try 1 "$tree/sflw" "$verb" <<<refuse && wrote 'refused 4 place 0\n' && asked 0 && said 0
         try 2 "$tree/sflw" "$verb" fast && wrote && said 1 "standard input"
     done
-    try 0 "$tree/sflw" lib && wrote "libsflw.a and sflw.h are in $tree/target/staticlib\n" && asked 1 && said 1 "proving the library"
+    QUIET=2.5 try 0 "$tree/sflw" lib && wrote "libsflw.a and sflw.h are in $tree/target/staticlib\n" && asked 1
+    said 1 "proving the library and all below, 1 of 2 crates"
+    [ "$(cat "$tree/target/staticlib/libsflw.a")" = library ] || wrong "libsflw.a is not what was made"
+    cmp -s "$tree/include/sflw.h" "$tree/target/staticlib/sflw.h" || wrong "sflw.h is not left"
     try 0 "$tree/sflw" lib && wrote "libsflw.a and sflw.h are in $tree/target/staticlib\n" && asked 0 && said 0
-    try 0 "$tree/sflw" cases && wrote "$(printf 'ran \\n%.0s' "${worked[@]}")" && asked 1 && said 1 "proving ${worked[0]}, "
+    try 0 "$tree/sflw" cases && wrote "$(printf 'ran \\n%.0s' "${worked[@]}")" && asked ${#worked[@]} && said 1 "proving ${worked[0]}, "
     echo else >"$tree/crates/${worked[0]}/stdout"
     try 1 "$tree/sflw" cases && wrote 'ran \n' && said 1 "something else"
 }
@@ -158,14 +166,31 @@ statuses() {
 changes() {
     touch "$tree/crates/other/src/lib.rt" "$tree/crates/low/must-fail/a.edit" "$tree/sflw"
     try 0 go other && asked 0
+    mv "$tree/crates/low/out" "$room/aside"
+    try 0 go aside && asked 0
+    mv "$room/aside" "$tree/crates/low/out"
+    touch "$tree/crates/low/out/more"
+    try 0 go more && asked 0
     touch "$tree/crates/low/src/lib.rt"
     try 0 go touched && wrote 'ran touched\n' && asked 1 && said 0
+    touch "$tree/crates/low/src/lib.rt"
+    QUIET=2.5 try 0 go silent && wrote 'ran silent\n' && asked 1 && said 1 "2 of 2 crates"
+    cp -p "$tree/crates/low/src/lib.rt" "$room/was"
+    echo 2 >>"$tree/crates/low/src/lib.rt"
+    touch -r "$room/was" "$tree/crates/low/src/lib.rt"
+    try 0 go hidden && asked 1 && said 1 "proving"
     echo 2 >>"$tree/crates/low/src/lib.rt"
     try 0 go changed && asked 1 && said 1 "proving"
     rm "$tree/crates/low/src/more.rt"
     try 0 go fewer && asked 1 && said 1 "proving"
+    mkdir "$tree/crates/low/proofs"
+    touch "$tree/crates/low/proofs/Lib.antt"
+    try 0 go folder && asked 1 && said 0
+    rm -r "$tree/crates/low/proofs"
+    try 0 go gone && asked 1 && said 0
     touch -d 2099-01-01 "$tree/crates/low/src/lib.rt"
-    try 0 go later && try 0 go later && asked 1
+    try 0 go later && asked 1
+    try 0 go later && asked 0
     touch -d 2001-01-01 "$tree/crates/low/src/lib.rt"
     try 0 go older && asked 1
     echo "# more" >>"$tree/crates.txt"
@@ -177,16 +202,16 @@ changes() {
     try 0 go same && asked 0 && said 0
 }
 
-# A proof that fails or is broken off leaves nothing to be started. One that was not foreseen is told of after two seconds.
+# A proof that fails or is broken off leaves nothing to be started, until the sources are again as they were when they were proved.
 failures() {
     echo 1 >"$tree/crates/low/src/fault"
     try 1 go fault && wrote && asked 1
-    grep -q "low NOT PROVED" "$room/err" || wrong "the log is not on standard error"
+    grep -q "low::fault: not proved" "$room/err" || wrong "the log is not on standard error"
     try 1 go fault && wrote && asked 1
     rm "$tree/crates/low/src/fault"
-    try 0 go mended && wrote 'ran mended\n'
+    try 0 go mended && wrote 'ran mended\n' && asked 0
     echo 3 >>"$tree/crates/low/src/lib.rt"
-    SLOW=20 try 124 timeout 6 "$tree/sflw" run </dev/null && wrote && said 1 "proving sflw_run"
+    SLOW=20 try 124 timeout 4 "$tree/sflw" run </dev/null && wrote && said 1 "proving sflw_run"
     try 0 go after && wrote 'ran after\n' && asked 1
 }
 
@@ -201,6 +226,22 @@ at_once() {
     asked 1
     [ "$(cat "$room/one" "$room/out" | grep -c '^ran ')" = 2 ] || wrong "two runs at once do not both run"
     count=$((count + 1))
+}
+
+# Another run of rt is waited for, and that is said.
+busy() {
+    touch "$tree/crates/sflw_run/src/main.rt" "$tree/crates/sflw_run/out/busy"
+    try 0 go waited && wrote 'ran waited\n' && asked 1 && said 1 "another run of rt is at work"
+}
+
+# On Arm a program runs under the emulator, and where there is none nothing runs.
+arm() {
+    mkdir "$room/arm"
+    printf '#!/bin/sh\necho aarch64\n' >"$room/arm/uname"
+    chmod +x "$room/arm/uname"
+    PATH="$room/arm:$PATH" try 0 go arm && wrote 'ran arm\n' && said 1 "emulated"
+    rm "$room/kit/bin/qemu-x86_64"
+    command -v qemu-x86_64 >/dev/null || { PATH="$room/arm:$PATH" try 1 go arm && wrote && said 1 "emulator"; }
 }
 
 # From another folder, through a link, with CDPATH; and in another tree, to which target/ was copied, its own program is made.
@@ -263,8 +304,10 @@ here() {
     changes
     failures
     at_once
+    busy
     places
     terminal
+    arm
     echo "launcher: $count runs of a small tree are as they should be"
 )
 [ "${1-}" = quick ] || { here && echo "launcher: $count runs here are as they should be"; }

@@ -3,8 +3,8 @@
 #
 #     test/start.sh PROGRAM [WORDS..]
 #
-# On an aarch64 machine it runs under the emulator that the Rattle kit ships,
-# where a time that is measured says nothing.
+# On an aarch64 machine it runs under qemu-user's emulator, where a time that is
+# measured says nothing.
 set -euo pipefail
 if [ ! -x "${1-}" ]; then
     echo "start.sh: a program is needed, and '${1-}' is none" >&2
@@ -15,12 +15,11 @@ x86_64)
     exec "$(readlink -f "$1")" "${@:2}"
     ;;
 aarch64)
-    if ! command -v rt >/dev/null; then
-        echo "start.sh: the Rattle toolchain (rt), which has the emulator, is not found" >&2
+    if ! command -v qemu-x86_64 >/dev/null; then
+        echo "start.sh: the emulator qemu-x86_64 (of qemu-user) is not found" >&2
         exit 1
     fi
-    kit="$(dirname "$(dirname "$(rt doc)")")"
-    exec "$kit/on/aarch64/toolchain/bin/qemu-x86_64" "$@"
+    exec qemu-x86_64 "$@"
     ;;
 *)
     echo "start.sh: x86_64 or aarch64 is needed, not $(uname -m)" >&2

@@ -1,4 +1,5 @@
-// The calls for programs in C. Each fills the words of its answer, in the order of include/sflw.h, and returns the number.
+// The calls for programs in C, as functions of a library; crates/sflw_c exports them. Each fills the words of its answer, in the order of
+// include/sflw.h, and returns the number.
 #![tactic(auto)]
 
 ghost use Rattle.std.specs.Prelude.{◌≡◌};
@@ -7,8 +8,7 @@ ghost use Rattle.sflw.specs.Words.{run_words, Checked, Read, Written, Plain, Ran
 use run::RunAnswer;
 
 // Checks a flow file: its sizes, its total and its version.
-#[unsafe(no_mangle)]
-pub extern "C" fn sflw_check(file: &[u8], answer: &mut [u32; 7]) -> u32
+pub fn sflw_check(file: &[u8], answer: &mut [u32; 7]) -> u32
     ensures { Checked file.now result answer.new }
 {
     let met = measure::measure(file);
@@ -25,8 +25,7 @@ pub extern "C" fn sflw_check(file: &[u8], answer: &mut [u32; 7]) -> u32
 }
 
 // Reads the rows out of a flow file, and its sizes and its version.
-#[unsafe(no_mangle)]
-pub extern "C" fn sflw_read(file: &[u8], rows: &mut [u8], answer: &mut [u32; 7]) -> u32
+pub fn sflw_read(file: &[u8], rows: &mut [u8], answer: &mut [u32; 7]) -> u32
     ensures { Read file.now rows.old result rows.new answer.new }
 {
     let met = reader::read(file, rows);
@@ -43,8 +42,7 @@ pub extern "C" fn sflw_read(file: &[u8], rows: &mut [u8], answer: &mut [u32; 7])
 }
 
 // Writes a flow file of a version from rows.
-#[unsafe(no_mangle)]
-pub extern "C" fn sflw_write(
+pub fn sflw_write(
     rows: &[u8],
     version: u32,
     workers: u32,
@@ -60,8 +58,7 @@ pub extern "C" fn sflw_write(
 }
 
 // Runs a flow plainly.
-#[unsafe(no_mangle)]
-pub extern "C" fn sflw_plain(file: &[u8], cells: &mut [u32], answer: &mut [u32; 2]) -> u32
+pub fn sflw_plain(file: &[u8], cells: &mut [u32], answer: &mut [u32; 2]) -> u32
     ensures { Plain file.now cells.old result cells.new answer.new }
 {
     let told = run::plain(file, cells);
@@ -103,13 +100,7 @@ fn tell_run(told: RunAnswer, answer: &mut [u32; 25])
 }
 
 // Runs a flow under a schedule.
-#[unsafe(no_mangle)]
-pub extern "C" fn sflw_run(
-    file: &[u8],
-    cells: &mut [u32],
-    schedule: &[u8],
-    answer: &mut [u32; 25],
-) -> u32
+pub fn sflw_run(file: &[u8], cells: &mut [u32], schedule: &[u8], answer: &mut [u32; 25]) -> u32
     ensures { Ran file.now cells.old schedule.now result cells.new answer.new }
 {
     let told = run::run(file, cells, schedule);
