@@ -1,10 +1,11 @@
 -- What the flow type's constructor answers, as 01's and 02's number and place with the version and the sizes: success with those asked
 -- for; number 22 and zeros for a version that is neither 1 nor 2, and after it number 4 and zeros where a size is outside the limits. No
 -- block is named, so the place is 0, as the writer's is.
-use Rattle.std.specs.Prelude.{cond, ℕ}
+use Rattle.std.specs.Prelude.{cond, ℕ, Result, Ok, Err}
 use Rattle.layout.specs.Flow.{known_version, in_range}
-use Rattle.flow.specs.declared.Made.{Made}
-use Rattle.flow.specs.declared.Made.TheVariants.{Within, OtherVersion, Outside}
+use Rattle.refusal.specs.declared.Rule.{Rule}
+use Rattle.refusal.specs.Numbers.{number_of}
+use Rattle.flow.specs.declared.Flow.{Flow}
 
 -- a number, a place, and a flow's version and sizes
 pub record FlowAnswer : Type 0 where
@@ -25,10 +26,9 @@ abbrev pub refused : ℕ → FlowAnswer
 refused number = record { number = number; place = 0; version = 0; tasks = 0; workers = 0; cells = 0 }
 
 -- the answer that each case stands for
-abbrev pub stated_by : Made → FlowAnswer
-stated_by (Within flow) = stated flow.version flow.tasks flow.workers flow.cells
-stated_by OtherVersion = refused 22
-stated_by Outside = refused 4
+abbrev pub stated_by : Result Flow Rule → FlowAnswer
+stated_by (Ok flow) = stated flow.version flow.tasks flow.workers flow.cells
+stated_by (Err rule) = refused (number_of rule)
 
 -- the answer for the version and the sizes asked for
 abbrev pub asked_for : ℕ → ℕ → ℕ → ℕ → FlowAnswer

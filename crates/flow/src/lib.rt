@@ -1,30 +1,29 @@
 // The flow's own kind: its versions and limits, which all code reads from here, and the version and sizes of one flow within them.
 #![tactic(auto)]
 
-ghost use Rattle.std.specs.Prelude.{◌≡◌, ◌+◌, ◌*◌, ◌<◌};
+ghost use Rattle.std.specs.Prelude.{◌≡◌, ◌+◌, ◌*◌, ◌<◌, ◌≤◌};
 ghost use Rattle.layout.specs.Bytes.{word_size};
-ghost use Rattle.layout.specs.Flow.{known_version, in_range};
+ghost use Rattle.layout.specs.Flow.{known_version, in_range, most_tasks, most_workers, most_cells};
 ghost use Rattle.layout.specs.Block.{blocks_for, rows_in};
-ghost use Rattle.flow.specs.Made.{stated_by, asked_for};
 
-// A flow's version, and its sizes: the numbers of tasks, workers and cells.
-#[derive(Clone, Copy)]
+use refusal::Rule;
+
+// A flow's version, and its sizes: the numbers of tasks, workers and cells. Each has room where a block or a run keeps it.
+#[derive(Clone, Copy, Debug, PartialEq, Eq)]
 pub struct Flow {
     pub version: u32,
     pub tasks: u32,
     pub workers: u32,
     pub cells: u32,
-}
-
-// What the constructor answers.
-#[derive(Clone, Copy)]
-pub enum Made {
-    Within(Flow),
-    OtherVersion,
-    Outside,
+    ghost version_fits: { version < 256 },
+    ghost tasks_fit: { tasks ≤ most_tasks },
+    ghost workers_fit: { workers ≤ most_workers },
+    ghost cells_fit: { cells ≤ most_cells },
 }
 
 impl Flow {
+    ghost use Rattle.flow.specs.Made.{stated_by, asked_for};
+
     // Operation 5 clears the high half in version 1, and keeps the high half of b in version 2.
     pub const VERSION_1: u32 = 1;
 
@@ -56,16 +55,16 @@ impl Flow {
     pub const ROOM_FOR_CELLS: usize = Flow::MAX_CELLS as usize;
 
     // A flow of this version and these sizes, refused where the version is another, and then where a size is outside the limits.
-    pub fn new(version: u32, tasks: u32, workers: u32, cells: u32) -> Made
+    pub fn new(version: u32, tasks: u32, workers: u32, cells: u32) -> Result<Flow, Rule>
         ensures { stated_by result ≡ asked_for version tasks workers cells }
     {
         if !known(version) {
-            return Made::OtherVersion;
+            return Err(Rule::Version);
         }
         if !within(tasks, workers, cells) {
-            return Made::Outside;
+            return Err(Rule::Sizes);
         }
-        Made::Within(Flow {
+        Ok(Flow {
             version,
             tasks,
             workers,
@@ -78,16 +77,16 @@ impl Flow {
 pub fn known(version: u32) -> bool
     ensures { result ≡ known_version version }
 {
-    (version == Flow::VERSION_1) | (version == Flow::VERSION_2)
+    matches!(version, Flow::VERSION_1 | Flow::VERSION_2)
 }
 
 // Whether there can be a flow of these sizes.
 pub fn within(tasks: u32, workers: u32, cells: u32) -> bool
     ensures { result ≡ in_range tasks workers cells }
 {
-    ((1 <= tasks) & (tasks <= Flow::MAX_TASKS))
-        & ((1 <= workers) & (workers <= Flow::MAX_WORKERS))
-        & ((1 <= cells) & (cells <= Flow::MAX_CELLS))
+    matches!(tasks, 1..=Flow::MAX_TASKS)
+        & matches!(workers, 1..=Flow::MAX_WORKERS)
+        & matches!(cells, 1..=Flow::MAX_CELLS)
 }
 
 // The fewest blocks for so many tasks.
@@ -99,16 +98,10 @@ pub fn blocks_for(tasks: u32) -> u32
 }
 
 // The rows in one block of a flow of so many tasks.
+// Kept: that the block's number fits two bytes is asked here and by the check of a block, which take it from a file that may have any.
 pub fn rows_in(tasks: u32, index: u32) -> u32
     requires { index < word_size }
     ensures { result ≡ rows_in tasks index }
 {
-    let before = 10 * index;
-    if tasks <= before {
-        return 0;
-    }
-    if tasks - before < 10 {
-        return tasks - before;
-    }
-    10
+    tasks.saturating_sub(10 * index).min(10)
 }

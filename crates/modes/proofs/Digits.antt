@@ -1,14 +1,22 @@
 -- The digits of the table of modes: each cell has its own two, so setting some for one cell leaves every other cell's.
-use mathlib.Core.Path.{◌≡◌, refl, sym, ap, ◌∙◌}
+use mathlib.Core.Path.{◌≡◌, refl, sym, ap, ap₂, ◌∙◌}
 use mathlib.Core.Bool.{Bool, true, false, cond}
-use Prim.Native.Nat.{ℕ, ◌+◌, ◌-◌, ◌*◌, ◌/◌, ◌%◌, ◌^◌, ◌<◌}
+use Prim.Native.Nat.{ℕ, ◌+◌, ◌-◌, ◌*◌, ◌/◌, ◌%◌, ◌^◌, ◌<◌, ◌≤◌}
 use native.Mathlib.Nat.{mul_assoc, mod-eq_of_lt, div-eq_of_lt, zero-div, mul-mod_left}
 use native.Mathlib.Omega.{arith}
 use borrow.Author.Tests.{ltb-true, ltb-false, eqb-true, eqb-false}
 use lib.Bits.{bit_or, or_shr, or_mod, or_zero_r}
-use lib.Pow.{pow-add, shl-shr, shr-shr}
+use lib.Pow.{pow-add, shl-shr, shr-shr, shl_exact}
 use lib.Dec.{eqb, ltb}
+use Rattle.layout.specs.Flow.{most_cells}
 use Rattle.modes.specs.Table.{mode_in, with_mode}
+
+-- a mode that is shifted to the place of a cell that a flow can have loses no digit
+pub placed : (digits cell mode low place : ℕ) → cell < most_cells → mode ≤ 3 → low ≡ mode → place ≡ cell
+    → bit_or digits (low * 2 ^ (2 * place) % 18446744073709551616) ≡ with_mode digits cell mode
+placed digits cell mode low place can small same there =
+    let little : low < 4 = omega arith in
+    ap (bit_or digits) (shl_exact 2 (2 * place) 64 little (omega arith) ∙ ap₂ (λ (m n : ℕ). m * 2 ^ (2 * n)) same there)
 
 -- the digits of two numbers together
 mode_or : (l r cell : ℕ) → mode_in (bit_or l r) cell ≡ bit_or (mode_in l cell) (mode_in r cell)

@@ -9,8 +9,9 @@ use lib.Bits.{bit_and, bit_or, and_zero_r, or_zero_r, and_mask, and_mod, or_mod,
 use lib.Pow.{shr-shr}
 use lib.Dec.{eqb}
 use Rattle.layout.specs.Lists.{each, all}
+use Rattle.layout.specs.Flow.{most_cells}
 use Rattle.layout.proofs.Lists.{all_same}
-use Rattle.modes.specs.Table.{owed}
+use Rattle.modes.specs.Table.{owed, none_owed}
 
 -- a 1 at the lower digit of each of so many cells
 unfoldable pub lowers : ℕ → ℕ
@@ -76,3 +77,8 @@ none_of (suc n) modes =
         or_shr modes (bit_and (modes / 2) (4 * lowers n + 1)) 2
         ∙ ap (bit_or (modes / 4))
         (and_shr (modes / 2) (4 * lowers n + 1) 2 ∙ ap₂ bit_and (shr-shr modes 1 2 ∙ sym (shr-shr modes 2 1)) before)
+
+-- 6148914691236517205 has a 1 at the lower digit of each cell that a flow can have
+pub none_left : (modes : ℕ) → eqb (bit_or modes (bit_and (modes / 2) 6148914691236517205)) modes ≡ none_owed modes
+unfolding none_owed lowers
+none_left modes = none_of most_cells modes

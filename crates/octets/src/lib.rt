@@ -1,88 +1,35 @@
-// What the format does with single bytes: two-byte numbers, bytes that are all zero, bytes set to zero.
+// What the format does with bytes: a part of a fixed size, a whole number of parts, bytes that are all zero.
 #![tactic(auto)]
 
-ghost use Rattle.std.specs.Prelude.{◌≡◌, ◌+◌, ◌*◌, ◌/◌, ◌%◌, ◌≤◌, ◌<◌, length, replicate};
-ghost use Rattle.layout.specs.Bytes.{all_zero, word_size};
+ghost use Rattle.std.specs.Prelude.{◌≡◌, cond, ◌&&◌, Some, None, ◌+◌, ◌/◌, ◌%◌, ◌<◌, ◌≤◌, ◌^◌, length, eqb};
+ghost use Rattle.layout.specs.Bytes.{part, all_zero};
+ghost use Rattle.layout.specs.Flow.{up_to};
 
-// A byte as a number of 32 bits.
-pub fn wide(byte: u8) -> u32
-    ensures { (result ≡ byte) × (result < 256) }
+// The part of N bytes from an index on.
+pub fn part_from<const N: usize>(bytes: &[u8], from: usize) -> &[u8; N]
+    requires { from + N ≤ length bytes.now }
+    ensures { result.now ≡ part from (from + N) bytes.now }
 {
-    byte as u32
+    let part = &bytes[from..from + N];
+    part.as_array().unwrap()
 }
 
-// A byte as an index.
-pub fn index(byte: u8) -> usize
-    ensures { (result ≡ byte) × (result < 256) }
+// How many parts of a size make up so many bytes: none where they are no byte, more than the most, or no whole number of parts.
+pub fn whole_parts(bytes: usize, size: usize, most: usize) -> Option<u32>
+    requires some_size { 0 < size }
+    requires few_bytes { most < 2 ^ 32 }
+    ensures { result ≡ cond (up_to most bytes && eqb (bytes % size) 0) (Some (bytes / size)) None }
 {
-    byte as usize
+    if (1..=most).contains(&bytes) && bytes % size == 0 {
+        Some((bytes / size) as u32)
+    } else {
+        None
+    }
 }
 
-// A number of 32 bits as an offset.
-pub fn offset(n: u32) -> usize
-    ensures { result ≡ n }
-{
-    n as usize
-}
-
-// The two-byte number of a low and a high byte.
-pub fn word(low: u8, high: u8) -> u32
-    ensures { (result ≡ low + 256 * high) × (result < word_size) }
-{
-    low as u32 + 256 * (high as u32)
-}
-
-// A number's low byte.
-pub fn low(n: u32) -> u8
-    ensures { result ≡ n % 256 }
-{
-    (n % 256) as u8
-}
-
-// The high byte of a two-byte number.
-pub fn high(n: u32) -> u8
-    requires { n < word_size }
-    ensures { result ≡ n / 256 }
-{
-    (n / 256) as u8
-}
-
-// Whether all of at most 512 bytes are zero: their sum is.
+// Whether all bytes are zero.
 pub fn all_zero(bytes: &[u8]) -> bool
-    requires { length bytes.now ≤ 512 }
     ensures { result ≡ all_zero bytes.now }
 {
-    let mut sum: u32 = 0;
-    let mut i = 0;
-    while i < bytes.len() {
-        sum += wide(bytes[i]);
-        i += 1;
-    }
-    sum == 0
-}
-
-// Whether a few bytes are all zero: it stops at the first that isn't, and needs hardly a register.
-#[tactic(auto, using(layout::proofs::Zeros::zero_passed, layout::proofs::Zeros::zero_breaks), unfolding(layout::specs::Bytes::all_zero))]
-pub fn few_zero(bytes: &[u8]) -> bool
-    ensures { result ≡ all_zero bytes.now }
-{
-    let mut i = 0;
-    while i < bytes.len() {
-        if bytes[i] != 0 {
-            return false;
-        }
-        i += 1;
-    }
-    true
-}
-
-// Sets all bytes to zero.
-pub fn clear(bytes: &mut [u8])
-    ensures { bytes.new ≡ replicate (length bytes.old) 0 }
-{
-    let mut i = 0;
-    while i < bytes.len() {
-        bytes[i] = 0;
-        i += 1;
-    }
+    bytes.iter().fold(0, |seen, byte| seen | *byte) == 0
 }

@@ -1,0 +1,2 @@
+-- What the numbers in a row stand for.
+pub mod Codes
