@@ -1,10 +1,6 @@
 -- Rule 18 by all six codes of a row: an unused operation is zero, so it isn't of code 6, and to ask the six is to ask those that are used.
-use mathlib.Core.Path.{◌≡◌, refl, sym, ap, ap₂, ◌∙◌}
-use mathlib.Core.Bool.{Bool, true, false, ◌||◌}
-use mathlib.Core.List.{List}
-use Prim.Native.Nat.{ℕ, zero, suc, ◌+◌, ◌-◌, ◌*◌, ◌≤◌, ◌<◌}
-use native.Mathlib.Omega.{arith}
-use lib.ListN.{drop}
+use Rattle.std.proofs.Common.{◌≡◌, ℕ, zero, suc, ◌+◌, ◌-◌, ◌*◌, ◌≤◌, ◌<◌, Bool, true, false, ◌||◌, List, drop, refl, sym, ap, ap₂, ◌∙◌, arith}
+use Rattle.std.proofs.Math.Bool.{or_assoc, or-false}
 use lib.Seq.{get_or-take, get_or-drop}
 use lib.Dec.{eqb}
 use Rattle.layout.specs.Lists.{each, all, any}
@@ -15,22 +11,17 @@ use Rattle.layout.proofs.Lists.{and_right}
 use Rattle.layout.proofs.Zeros.{zero_at}
 use Rattle.layout.proofs.Modes.{counts_kept}
 
--- no member passes a test
-any_none : {A : Type 0} (test : A → Bool) (n : ℕ) (f : ℕ → A) → ((i : ℕ) → i < n → test (f i) ≡ false) → any test (each n f) ≡ false
-unfolding each any
-any_none test zero f none = refl
-any_none test (suc n) f none =
-    ap₂ ◌||◌ (none 0 (omega arith)) (any_none test n (λ i. f (suc i)) (λ i l. none (suc i) (omega arith)))
-
 -- members past a count that don't pass a test can be left out
 any_fewer : {A : Type 0} (test : A → Bool) (n more : ℕ) (f : ℕ → A) → n ≤ more → ((i : ℕ) → n ≤ i → i < more → test (f i) ≡ false)
     → any test (each more f) ≡ any test (each n f)
 unfolding each any
-any_fewer test zero more f h none = any_none test more f (λ i l. none i (omega arith) l)
+any_fewer test zero zero f h none = refl
+any_fewer test zero (suc more) f h none =
+    ap₂ ◌||◌ (none 0 (omega arith) (omega arith)) (any_fewer test zero more (λ i. f (suc i)) (omega arith) (λ i l m. none (suc i) (omega arith) (omega arith)))
 any_fewer test (suc n) zero f h none = absurd (omega arith)
 any_fewer test (suc n) (suc more) f h none =
     ap (λ (b : Bool). test (f 0) || b)
-    (any_fewer test n more (λ i. f (suc i)) (omega arith) (λ i low high. none (suc i) (omega arith) (omega arith)))
+    (any_fewer test n more (λ i. f (suc i)) (omega arith) (λ i l m. none (suc i) (omega arith) (omega arith)))
 
 -- the code of an unused operation
 unused_code : (cells : ℕ) (row : List ℕ) → operations_sound cells row ≡ true → (i : ℕ) → at row 2 ≤ i → i < most_operations
@@ -44,19 +35,9 @@ unused_code cells row sound i low high =
     ap (at row) (sym there) ∙ sym (get_or-drop from row place 0) ∙ sym (get_or-take (48 - from) (drop from row) place 0 (omega arith))
     ∙ zero_at (part from 48 row) place zeros
 
--- of code 6
-abbrev is_larger : Operation → Bool
-is_larger o = eqb o.code 6
-
 -- any of six, asked three and three
 three_and_three : (a b c d e f : Bool) → (a || b || c || (d || e || f)) ≡ (a || (b || (c || (d || (e || (f || false))))))
-three_and_three true b c d e f = refl
-three_and_three false true c d e f = refl
-three_and_three false false true d e f = refl
-three_and_three false false false true e f = refl
-three_and_three false false false false true f = refl
-three_and_three false false false false false true = refl
-three_and_three false false false false false false = refl
+three_and_three a b c d e f = simp (or_assoc, or-false)
 
 -- the code of the operation at an index is 6
 abbrev six : List ℕ → ℕ → Bool
@@ -68,5 +49,5 @@ pub six_codes : (cells : ℕ) (row : List ℕ) → counts_sound row ≡ true →
 unfolding task_of each any
 six_codes cells row counts sound =
     three_and_three (six row 0) (six row 1) (six row 2) (six row 3) (six row 4) (six row 5)
-    ∙ any_fewer is_larger (at row 2) most_operations (operation_at row) (counts_kept row counts).1
+    ∙ any_fewer (λ (o : Operation). eqb o.code 6) (at row 2) most_operations (operation_at row) (counts_kept row counts).1
     (λ i low high. ap (λ (code : ℕ). eqb code 6) (unused_code cells row sound i low high))

@@ -1,0 +1,2 @@
+-- What the letters at the front of a block are.
+pub mod Letters

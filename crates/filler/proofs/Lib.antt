@@ -1,2 +1,0 @@
--- Laws of lists that the filling of a block cites.
-pub mod Parts
