@@ -1,29 +1,24 @@
 -- Pieces of one size, laid one after another into lent bytes, are the pieces joined with the rest of the bytes behind them: each
 -- goes where the ones before it end, and leaves what stands behind it.
-use mathlib.Core.Path.{◌≡◌, refl, sym, ap, ap₂, ◌∙◌}
+use mathlib.Core.Path.{◌≡◌, refl, sym, ap, ◌∙◌}
 use mathlib.Core.List.{List, [], ◌∷◌, ◌++◌, append-nil, append_assoc}
-use Prim.Native.Nat.{ℕ, ◌+◌, ◌-◌, ◌*◌, ◌<◌, ◌≤◌}
+use Prim.Native.Nat.{ℕ, ◌+◌, ◌-◌, ◌*◌, ◌<◌}
 use native.Mathlib.Nat.{mul-zero, add-sub_cancel_left, mul-add, mul-one}
 use native.Mathlib.Omega.{arith}
-use lib.ListN.{length, take, drop, length-take, drop_of_length-le}
-use lib.Seq.{take_at, drop_at, take-length, drop-drop}
+use lib.ListN.{length, take, drop}
+use lib.Seq.{take_at, drop_at, drop-drop}
 use Rattle.layout.specs.Lists.{each, joined}
-use Rattle.layout.specs.Bytes.{part}
 use Rattle.layout.proofs.Lists.{each_more}
-use Rattle.roundtrip.proofs.Parts.{part_sized, part_length}
 use Rattle.roundtrip.proofs.Pieces.{joined_length}
 
 joined-append : (f : ℕ → List ℕ) (xs ys : List ℕ) → joined f (xs ++ ys) ≡ joined f xs ++ joined f ys
 unfolding joined
 joined-append f [] ys = refl
-joined-append f (x ∷ xs) ys =
-    ap (λ (t : List ℕ). f x ++ t) (joined-append f xs ys) ∙ sym (append_assoc (f x) (joined f xs) (joined f ys))
+joined-append f (x ∷ xs) ys = rw (joined-append f xs ys, append_assoc (f x) (joined f xs) (joined f ys))
 
 joined_more : (f : ℕ → List ℕ) (g : ℕ → ℕ) (n : ℕ) → joined f (each (n + 1) g) ≡ joined f (each n g) ++ f (g n)
 unfolding joined
-joined_more f g n =
-    ap (joined f) (each_more n g) ∙ joined-append f (each n g) (g n ∷ [])
-    ∙ ap (λ (t : List ℕ). joined f (each n g) ++ t) (append-nil (f (g n)))
+joined_more f g n = rw (each_more n g, joined-append f (each n g) (g n ∷ []), append-nil (f (g n)))
 
 -- the pieces so far, and what was lent behind them
 abbrev pub laid : ℕ → (ℕ → List ℕ) → (ℕ → ℕ) → List ℕ → ℕ → List ℕ
@@ -45,32 +40,10 @@ module _ (size : ℕ) (f : ℕ → List ℕ) (g : ℕ → ℕ) (lent : List ℕ)
       let long : length done ≡ at = joined_length size n f g (λ i l. sized i (omega arith)) ∙ sym place in
       let e : now ≡ done ++ drop at lent = before ∙ ap (λ (k : ℕ). done ++ drop k lent) (sym place) in
       let next : at + size ≡ size * (n + 1) = omega (arith, mul-add size n 1, mul-one size) in
-      let rest : drop (at + size - at) (drop at now) ≡ drop (size * (n + 1)) lent =
-      ap (λ (k : ℕ). drop k (drop at now)) (add-sub_cancel_left at size) ∙ ap (λ (t : List ℕ). drop size (drop at t)) e
-      ∙ ap (drop size) (drop_at done (drop at lent) at long)
-      ∙ drop-drop size at lent
-      ∙ ap (λ (k : ℕ). drop k lent) next in
-      ap₂ (λ (s t : List ℕ). s ++ (piece ++ t)) (ap (take at) e ∙ take_at done (drop at lent) at long) rest
-      ∙ sym (append_assoc done piece (drop (size * (n + 1)) lent))
-      ∙ ap (λ (t : List ℕ). t ++ drop (size * (n + 1)) lent) (ap (λ (t : List ℕ). done ++ t) here ∙ sym (joined_more f g n))
+      rw (e, take_at done (drop at lent) at long, drop_at done (drop at lent) at long, add-sub_cancel_left at size, drop-drop size at lent, next, joined_more f g n, here)
+      (sym (append_assoc done (f (g n)) (drop (size * (n + 1)) lent)))
 
   -- what is left of the lent bytes begins where the pieces end
   pub laid_is : (n : ℕ) → ((i : ℕ) → i < n → length (f (g i)) ≡ size)
       → laid size f g lent n ≡ joined f (each n g) ++ drop (length (joined f (each n g))) lent
   laid_is n sized = ap (λ (k : ℕ). joined f (each n g) ++ drop k lent) (sym (joined_length size n f g sized))
-
--- a piece copied from one place to another is what stood there
-pub copied : (size from to place : ℕ) (bytes lent piece : List ℕ) → from + size ≤ length bytes
-    → piece
-    ≡ take (length (part from (from + size) bytes)) (part from (from + size) bytes)
-    ++ drop (length (part from (from + size) bytes)) (part to (to + size) lent)
-    → from ≡ place
-    → piece ≡ part place (place + size) bytes
-copied size from to place bytes lent piece fits e there =
-    let full : length (part from (from + size) bytes) ≡ size =
-    ap length (part_sized from size bytes) ∙ part_length from size bytes fits in
-    let few : length (part to (to + size) lent) ≤ size = simp (part_sized to size lent, length-take) (omega arith) in
-    let none_left : length (part to (to + size) lent) ≤ length (part from (from + size) bytes) = omega arith in
-    e ∙ ap₂ ◌++◌ (take-length (part from (from + size) bytes)) (drop_of_length-le (part to (to + size) lent) none_left)
-    ∙ append-nil (part from (from + size) bytes)
-    ∙ ap (λ (k : ℕ). part k (k + size) bytes) there

@@ -1,26 +1,25 @@
 -- The rules are asked in the order of the definitions, so the first part that refuses gives the answer: of a file the length, the
--- blocks and the rows; and for a call that fills lent bytes, their room last. What is asked with the sizes that the code has at hand
--- is asked with those that the definitions name, for they are the same.
+-- blocks and the rows; and for a call that fills lent bytes, their room last.
 use mathlib.Core.Path.{◌≡◌, refl, sym, ap, ◌∙◌}
-use mathlib.Core.Bool.{Bool, false, cond}
+use mathlib.Core.Bool.{Bool, true, false, cond}
 use mathlib.Core.List.{List}
-use Prim.Native.Nat.{ℕ, ◌*◌, ◌/◌, ◌≤◌, ◌<◌}
+use Prim.Native.Nat.{ℕ, ◌*◌, ◌≤◌, ◌<◌}
 use native.Mathlib.Nat.{zero-add}
-use borrow.Author.Tests.{ne_eqb, le-leb, lt-leb}
+use native.Mathlib.Omega.{arith}
+use borrow.Author.Tests.{eqb-true, leb-true, ne_eqb, le-leb, lt-leb}
 use lib.ListN.{length}
 use lib.Dec.{leb}
-use Rattle.layout.specs.Flow.{most_tasks, most_cells, most_bytes}
+use Rattle.std.specs.Prelude.{Option, Some, None}
+use Rattle.layout.specs.Flow.{most_blocks, WithinLimits}
 use Rattle.layout.specs.Refusal as Rules
 use Rattle.layout.specs.Refusal.{success, refusal, unless, or_else, first_at}
-use Rattle.layout.specs.Row.{retired_in_reader, row_refusal}
-use Rattle.layout.specs.Block.{blocks_for, block_refusal}
-use Rattle.layout.specs.File.{block_at, row_at, version_of, tasks_of, workers_of, cells_of, length_sound, file_answer}
-use Rattle.roundtrip.proofs.NoRefusal.{second_given, rule_passed, none_at}
+use Rattle.layout.specs.Block.{blocks_for}
+use Rattle.layout.specs.File.{block_at, blocks_of, version_of, tasks_of, workers_of, cells_of, length_sound, block_number, row_number, file_answer}
+use Rattle.roundtrip.proofs.NoRefusal.{and_iff, second_given, rule_passed, none_at}
 use Rattle.roundtrip.proofs.BlockRules.{BlockKept, block_keeps}
-use Rattle.block.specs.declared.Sizes.{Sizes}
-use Rattle.file.specs.declared.Answer.{Answer}
-use Rattle.file.specs.Answers.{answer_of}
-use Rattle.file.proofs.Whole.{WholePieces, unsound, is_sound}
+use Rattle.refusal.specs.declared.Refusal.{Refusal}
+use Rattle.refusal.specs.Numbers.{answer_of}
+use Rattle.refusal.proofs.Unique.{number_positive}
 
 -- ---- a part that refuses, and one that doesn't
 
@@ -39,81 +38,73 @@ module _ (first : Rules.Answer) (none : first.number ≡ 0) (needed lent : ℕ) 
 
 -- ---- the file
 
-pub length_refused : (file : List ℕ) → length_sound (length file) ≡ false → refusal 1 0 ≡ file_answer file
+-- what the code counts as blocks in a file
+abbrev counted_in : List ℕ → Option ℕ
+counted_in file = cond (length_sound (length file)) (Some (blocks_of file)) None
+
+-- no blocks are counted
+pub length_refused : (file : List ℕ) {found : Option ℕ} → found ≡ counted_in file → found ≡ None → refusal 1 0 ≡ file_answer file
 unfolding file_answer
-length_refused file h = rw h
+length_refused file {found} e none = go (length_sound (length file)) refl (sym none ∙ e)
+  where
+    go : (b : Bool) → length_sound (length file) ≡ b → None ≡ cond b (Some (blocks_of file)) None → refusal 1 0 ≡ file_answer file
+    go true s p = cc
+    go false s p = rw s
 
--- and so a count of 0 blocks is answered with 1
-pub length_answered : (file : List ℕ) → cond (length_sound (length file)) (length file / 512) 0 ≡ 0
-    → record { number = 1; place = 0 } ≡ answer_of (file_answer file)
-length_answered file none = ap answer_of (length_refused file (unsound 512 most_bytes (length file) _ refl none))
+-- so many are
+pub record Counted (file : List ℕ) (blocks : ℕ) : Type 0 where
+  pub sound : length_sound (length file) ≡ true
+  pub count_is : blocks ≡ blocks_of file
+  pub is_whole : length file ≡ 512 * blocks
+  pub some_block : 1 ≤ blocks
+  pub few_blocks : blocks ≤ most_blocks
 
--- the first refusal among the blocks, and among the rows
-abbrev pub from_blocks : List ℕ → ℕ → ℕ → ℕ → ℕ → ℕ → Rules.Answer
-from_blocks file blocks version tasks workers cells =
-    first_at (λ index. block_refusal blocks version tasks workers cells index (block_at file index)) 0 blocks
+pub counted : (file : List ℕ) {found : Option ℕ} {blocks : ℕ} → found ≡ counted_in file → found ≡ Some blocks → Counted file blocks
+counted file {found} {blocks} e some = go (length_sound (length file)) refl (sym some ∙ e)
+  where
+    go : (b : Bool) → length_sound (length file) ≡ b → Some blocks ≡ cond b (Some (blocks_of file)) None → Counted file blocks
+    go true s p =
+        let tests = simp and_iff at s in
+        let count_is : blocks ≡ blocks_of file = cc in
+        record {
+          sound = s;
+          count_is = count_is;
+          is_whole = omega (arith, eqb-true);
+          some_block = omega (arith, eqb-true, leb-true);
+          few_blocks = omega (arith, leb-true);
+        }
+    go false s p = cc
 
-abbrev pub from_rows : List ℕ → ℕ → ℕ → ℕ → ℕ → Rules.Answer
-from_rows file version tasks workers cells = first_at (λ task. row_refusal (retired_in_reader version) workers cells (row_at file task)) 1 tasks
-
--- the sizes are those that the file states
-abbrev pub Stated : List ℕ → Sizes → Type 0
-Stated file sizes = (sizes.tasks ≡ tasks_of file) × (sizes.workers ≡ workers_of file) × (sizes.cells ≡ cells_of file)
-
--- what is met in a file of whole blocks
-pub record BlocksMet (file : List ℕ) (blocks version : ℕ) (sizes : Sizes) (met : Answer) : Type 0 where
-  pub whole : WholePieces 512 most_bytes (length file) blocks
-  pub version_is : version ≡ version_of file
-  pub stated : Stated file sizes
-  pub found : met ≡ answer_of (from_blocks file blocks version sizes.tasks sizes.workers sizes.cells)
-
--- what is known once the blocks are checked, where their count is not 0
-pub blocks_known : (file : List ℕ) (blocks version : ℕ) (sizes : Sizes) (met : Answer)
-    → blocks ≡ cond (length_sound (length file)) (length file / 512) 0
-    → (blocks ≡ 0 → ⊥)
-    → version ≡ version_of file
-    → Stated file sizes
-    → met ≡ answer_of (from_blocks file blocks version sizes.tasks sizes.workers sizes.cells)
-    → BlocksMet file blocks version sizes met
-blocks_known file blocks version sizes met counted some version_is stated found =
-    record { whole = is_sound 512 most_bytes _ _ counted some; version_is = version_is; stated = stated; found = found }
-
-module _ {file : List ℕ} {blocks version : ℕ} {sizes : Sizes} {met : Answer} (m : BlocksMet file blocks version sizes met) where
+-- and then they are asked, and the rows after them
+module _ {file : List ℕ} {blocks : ℕ} (whole : Counted file blocks) where
   abbrev by_blocks : Rules.Answer
-  by_blocks = from_blocks file blocks version sizes.tasks sizes.workers sizes.cells
+  by_blocks = first_at (block_number file) 0 blocks
 
   abbrev by_rows : Rules.Answer
-  by_rows = from_rows file version sizes.tasks sizes.workers sizes.cells
-
-  same_number : by_blocks.number ≡ met.number
-  same_number = sym (ap (λ (a : Answer). a.number) m.found)
+  by_rows = first_at (row_number file) 1 (tasks_of file)
 
   parts : or_else by_blocks by_rows ≡ file_answer file
   unfolding file_answer
   parts =
-      (λ i.
-      or_else (from_blocks file (m.whole.count_is i) (m.version_is i) (m.stated.0 i) (m.stated.1 i) (m.stated.2 i))
-      (from_rows file (m.version_is i) (m.stated.0 i) (m.stated.1 i) (m.stated.2 i)))
-      ∙ sym (rule_passed (length_sound (length file)) 1 _ m.whole.sound)
+      ap (λ (n : ℕ). or_else (first_at (block_number file) 0 n) by_rows) whole.count_is
+      ∙ sym (rule_passed (length_sound (length file)) 1 _ whole.sound)
 
-  pub block_refused : (met.number ≡ 0 → ⊥) → met ≡ answer_of (file_answer file)
-  block_refused some = m.found ∙ ap answer_of (first_given by_blocks _ by_rows refl (λ none. some (sym same_number ∙ none)) ∙ parts)
+  pub block_refused : (met : Refusal) → answer_of met ≡ by_blocks → answer_of met ≡ file_answer file
+  block_refused met e = first_given (answer_of met) by_blocks by_rows e (number_positive met.rule) ∙ parts
 
-  pub row_answers : {last : Answer} → met.number ≡ 0 → last ≡ answer_of by_rows → last ≡ answer_of (file_answer file)
-  row_answers none e = e ∙ ap answer_of (sym (second_given by_blocks by_rows (same_number ∙ none)) ∙ parts)
+  module _ (passed : success ≡ by_blocks) where
+    none : by_blocks.number ≡ 0
+    none = sym (ap (λ (a : Rules.Answer). a.number) passed)
 
-  -- block 0 keeps the rules
-  first_kept : met.number ≡ 0 → BlockKept blocks version sizes.tasks sizes.workers sizes.cells 0 (block_at file 0)
-  first_kept none =
-      block_keeps blocks version sizes.tasks sizes.workers sizes.cells 0 (block_at file 0)
-      (rw zero-add at (none_at _ 0 blocks (same_number ∙ none) 0 m.whole.some))
+    pub row_answers : {last : Rules.Answer} → last ≡ by_rows → last ≡ file_answer file
+    row_answers e = e ∙ sym (second_given by_blocks by_rows none) ∙ parts
 
-  -- so that the rows stand within the file
-  pub rows_within : met.number ≡ 0
-      → (length file ≡ 512 * blocks_for sizes.tasks) × (sizes.tasks ≤ most_tasks) × (sizes.cells ≤ most_cells)
-  rows_within none =
-      let kept = first_kept none in (
-        m.whole.is_whole ∙ ap (λ (k : ℕ). 512 * k) kept.fewest,
-        kept.sizes.tasks_fit,
-        kept.sizes.cells_fit,
-      )
+    -- block 0 keeps the rules, so that the sizes are within the limits and the rows within the file
+    first_kept : BlockKept (blocks_of file) (version_of file) (tasks_of file) (workers_of file) (cells_of file) 0 (block_at file 0)
+    first_kept = block_keeps _ _ _ _ _ 0 (block_at file 0) (rw zero-add at (none_at (block_number file) 0 blocks none 0 whole.some_block))
+
+    pub sizes_fit : WithinLimits (tasks_of file) (workers_of file) (cells_of file)
+    sizes_fit = first_kept.sizes
+
+    pub rows_within : length file ≡ 512 * blocks_for (tasks_of file)
+    rows_within = omega (arith, first_kept.fewest, whole)

@@ -3,7 +3,7 @@
 -- limits, the rows and the flow.
 use mathlib.Core.Path.{◌≡◌, sym, ap, subst, ◌∙◌}
 use mathlib.Core.List.{List}
-use Prim.Native.Nat.{ℕ, ◌*◌, ◌≤◌}
+use Prim.Native.Nat.{ℕ, ◌*◌, ◌≤◌, ◌<◌}
 use native.Mathlib.Omega.{arith}
 use borrow.Author.Tests.{ne_eqb}
 use lib.ListN.{length}
@@ -12,13 +12,11 @@ use Rattle.layout.specs.Refusal as Rules
 use Rattle.layout.specs.Refusal.{success, refusal}
 use Rattle.layout.specs.Block.{blocks_for}
 use Rattle.layout.specs.File.{version_of, tasks_of, workers_of, cells_of, file_answer, flow_of, tasks_in, lent_after}
+use Rattle.layout.proofs.Blocks.{version_byte}
 use Rattle.roundtrip.proofs.Answers.{FileKept, file_keeps, keeps_file}
-use Rattle.roundtrip.proofs.Read.{fewest, file_sizes}
-use Rattle.block.specs.declared.Sizes.{Sizes}
-use Rattle.file.specs.declared.CheckAnswer.{CheckAnswer}
-use Rattle.file.specs.Answers.{check_refused, check_with}
+use Rattle.roundtrip.proofs.Read.{fewest, file_sizes, version_known}
+use Rattle.file.specs.Answers.{CheckAnswer, check_refused, check_with}
 use Rattle.file.specs.Promises.{CheckPromise}
-use Rattle.file.proofs.Order.{Stated}
 
 -- ---- with a refusal
 
@@ -26,19 +24,11 @@ module _ (met : Rules.Answer) (some : met.number ≡ 0 → ⊥) where
   check_zeros : (file : List ℕ) → check_refused met ≡ check_with met file
   check_zeros file = rw (ne_eqb met.number 0 some)
 
-  pub check_refused_lem : (file : List ℕ) (r : CheckAnswer) → met ≡ file_answer file → r ≡ check_refused met → CheckPromise file r
-  check_refused_lem file r e is = record { answer = is ∙ check_zeros file ∙ ap (λ (a : Rules.Answer). check_with a file) e }
-
   -- a call that fills lent bytes leaves them as they were
   pub lent_kept : (bytes lent : List ℕ) → lent ≡ lent_after met bytes lent
   lent_kept bytes lent = rw (ne_eqb met.number 0 some)
 
 -- ---- an accepted file
-
--- the check's answer for the version and the sizes that the file states
-abbrev pub check_all : ℕ → Sizes → CheckAnswer
-check_all version sizes =
-    record { number = 0; place = 0; tasks = sizes.tasks; workers = sizes.workers; cells = sizes.cells; version = version }
 
 module _ (file : List ℕ) (none : (file_answer file).number ≡ 0) where
   pub file_kept : FileKept file
@@ -53,13 +43,11 @@ module _ (file : List ℕ) (none : (file_answer file).number ≡ 0) where
   pub rows_stand : length file ≡ 512 * blocks_for (tasks_of file)
   rows_stand = omega (arith, file_kept, fewest file file_kept)
 
-  pub check_done : (version : ℕ) (sizes : Sizes) → version ≡ version_of file → Stated file sizes → CheckPromise file (check_all version sizes)
-  check_done version sizes version_is stated =
-      record {
-        answer =
-            (λ i. check_all (version_is i) record { tasks = stated.0 i; workers = stated.1 i; cells = stated.2 i })
-            ∙ ap (λ (a : Rules.Answer). check_with a file) succeeds;
-      }
+  pub sizes_fit : WithinLimits (tasks_of file) (workers_of file) (cells_of file)
+  sizes_fit = file_sizes file file_kept
+
+  pub version_fits : version_of file < 256
+  version_fits = version_byte (version_of file) (version_known file file_kept)
 
 -- ---- what a call has of the check
 
@@ -90,7 +78,7 @@ module _ {file : List ℕ} {met : CheckAnswer} (promised : CheckPromise file met
 
     pub within : WithinLimits met.tasks met.workers met.cells
     within =
-        subst (λ (a : CheckAnswer). WithinLimits a.tasks a.workers a.cells) (sym met_is) (file_sizes file (file_kept file accepted))
+        subst (λ (a : CheckAnswer). WithinLimits a.tasks a.workers a.cells) (sym met_is) (sizes_fit file accepted)
 
     -- where its rows stand
     pub rows_fit : (length file ≡ 512 * blocks_for met.tasks) × (met.tasks ≤ most_tasks)

@@ -1,120 +1,80 @@
 // The check of a file: the length, then the blocks in order, then the rows in order. It goes over the file once for the blocks
 // and once for the rows.
-ghost use Rattle.std.specs.Prelude.{◌≡◌, cond, ◌+◌, ◌*◌, ◌/◌, ◌≤◌, ◌<◌, length};
-ghost use Rattle.layout.specs.Bytes.{word_size};
-ghost use Rattle.layout.specs.Flow.{most_tasks, most_cells, most_blocks};
+ghost use Rattle.std.specs.Prelude.{◌≡◌, cond, Some, None, ◌+◌, ◌*◌, ◌/◌, ◌≤◌, length};
+ghost use Rattle.layout.specs.Flow.{most_blocks, WithinLimits};
 ghost use Rattle.layout.specs.Refusal.{first_at};
-ghost use Rattle.layout.specs.Row.{retired_in_reader, row_refusal};
-ghost use Rattle.layout.specs.Block.{blocks_for, block_refusal};
-ghost use Rattle.layout.specs.File.{block_at, row_at, length_sound, file_answer};
-ghost use Rattle.file.specs.Answers.{answer_of};
+ghost use Rattle.layout.specs.Block.{blocks_for};
+ghost use Rattle.layout.specs.File.{block_at, tasks_of, workers_of, cells_of, block_number, row_number, length_sound, file_answer};
+ghost use Rattle.refusal.specs.Numbers.{met_by};
+ghost use Rattle.file.specs.Answers.{answer_by};
 ghost use Rattle.file.specs.Promises.{CheckPromise};
 
-use crate::{Answer, CheckAnswer};
-use block::Sizes;
+use block::{Block, Stated};
 use flow::Flow;
+use refusal::{Refusal, Rule, first_refused};
 
-// The blocks in so many bytes; 0 where 1 refuses them.
-#[tactic(auto, using(crate::proofs::Whole::none, crate::proofs::Whole::too_many, crate::proofs::Whole::left_over, crate::proofs::Whole::counted))]
-fn whole_blocks(bytes: usize) -> u32
-    ensures { result ≡ cond (length_sound bytes) (bytes / 512) 0 }
+// The blocks in so many bytes; none where 1 refuses them.
+// Kept: beside the writer's `whole_rows`: each says its own rule of the one function that both call.
+fn whole_blocks(bytes: usize) -> Option<u32>
+    ensures { result ≡ cond (length_sound bytes) (Some (bytes / 512)) None }
 {
-    if bytes == 0 {
-        return 0;
-    }
-    if bytes > Flow::MAX_BYTES {
-        return 0;
-    }
-    if bytes % 512 != 0 {
-        return 0;
-    }
-    (bytes / 512) as u32
+    octets::whole_parts(bytes, 512, Flow::MAX_BYTES)
+}
+
+// The block of a file at an index.
+fn block_at(file: &[u8], index: u32) -> &Block
+    requires { 512 * index + 512 ≤ length file.now }
+    ensures { result.now ≡ block_at file.now index }
+{
+    octets::part_from(file, 512 * index as usize)
 }
 
 // The first refusal among the blocks.
-fn blocks_met(file: &[u8], blocks: u32, version: u32, first: Sizes) -> Answer
-    requires { (length file.now ≡ 512 * blocks) × (blocks ≤ most_blocks) × (first.tasks < word_size) }
-    ensures { result ≡ answer_of (first_at (λ index. block_refusal blocks version first.tasks first.workers first.cells index (block_at file.now index)) 0 blocks) }
+fn blocks_met(file: &[u8], blocks: u32) -> Result<(), Refusal>
+    requires whole { length file.now ≡ 512 * blocks }
+    requires some_block { 1 ≤ blocks }
+    requires few_blocks { blocks ≤ most_blocks }
+    ensures { met_by result ≡ first_at (block_number file.now) 0 blocks }
 {
-    let mut index: u32 = 0;
-    while index < blocks {
-        let from = octets::offset(512 * index);
-        let number = block::refusal(&file[from..from + 512], index, blocks, version, first);
-        if number != 0 {
-            return Answer {
-                number,
-                place: index,
-            };
-        }
-        index += 1;
-    }
-    Answer {
-        number: 0,
-        place: 0,
-    }
+    let first = Stated::of(file);
+    let check = |index| block::check(block_at(file, index), index, blocks, first);
+    first_refused(0, blocks, check)
 }
 
-// The first refusal among the rows of a file. In a file of version 2 operation 6 is retired.
-fn rows_met(file: &[u8], version: u32, sizes: Sizes) -> Answer
-    requires { (length file.now ≡ 512 * blocks_for sizes.tasks) × (sizes.tasks ≤ most_tasks) × (sizes.cells ≤ most_cells) }
-    ensures { result ≡ answer_of (first_at (λ task. row_refusal (retired_in_reader version) sizes.workers sizes.cells (row_at file.now task)) 1 sizes.tasks) }
+// The first refusal among the rows. In a file of version 2 operation 6 is retired.
+fn rows_met(file: &[u8]) -> Result<(), Refusal>
+    requires whole { length file.now ≡ 512 * blocks_for (tasks_of file.now) }
+    requires sizes_fit { WithinLimits (tasks_of file.now) (workers_of file.now) (cells_of file.now) }
+    ensures { met_by result ≡ first_at (row_number file.now) 1 (tasks_of file.now) }
 {
-    let retired = version == Flow::VERSION_2;
-    let mut task: u32 = 1;
-    while task <= sizes.tasks {
-        let from = row::start(task);
-        let number = row::refusal(&file[from..from + 48], retired, sizes.workers, sizes.cells);
-        if number != 0 {
-            return Answer {
-                number,
-                place: task,
-            };
-        }
-        task += 1;
-    }
-    Answer {
-        number: 0,
-        place: 0,
-    }
+    let first = Stated::of(file);
+    let retired = first.version == Flow::VERSION_2;
+    let check = |task| {
+        let row = rows::row_of(file, task);
+        row::check(row, retired, first.workers, first.cells)
+    };
+    first_refused(1, first.tasks, check)
 }
 
-// The first refusal of a file, 0 with place 0 where it meets none.
-#[tactic(auto, using(crate::proofs::Order::length_answered))]
-pub fn first_refusal(file: &[u8]) -> Answer
-    ensures { result ≡ answer_of (file_answer file.now) }
+// The first refusal of a file, where it meets one.
+pub fn accept(file: &[u8]) -> Result<(), Refusal>
+    ensures { met_by result ≡ file_answer file.now }
 {
-    let blocks = whole_blocks(file.len());
-    if blocks == 0 {
-        return Answer {
-            number: 1,
-            place: 0,
-        };
-    }
-    let version = block::version_of(file);
-    let sizes = block::sizes_of(file);
-    let met = blocks_met(file, blocks, version, sizes);
-    if met.number != 0 {
-        return met;
-    }
-    rows_met(file, version, sizes)
+    let blocks = whole_blocks(file.len()).ok_or(Rule::Length)?;
+    blocks_met(file, blocks)?;
+    rows_met(file)
 }
 
-// The check of a flow file: 0 with the flow's sizes and its version, or the first refusal met.
-pub fn check(file: &[u8]) -> CheckAnswer
-    ensures { CheckPromise file.now result }
+// The check of a flow file: the flow's version and its sizes, or the first refusal met.
+pub fn check(file: &[u8]) -> Result<Flow, Refusal>
+    ensures { CheckPromise file.now (answer_by result) }
 {
-    let met = first_refusal(file);
-    if met.number != 0 {
-        return CheckAnswer::refused(met.number, met.place);
-    }
-    let version = block::version_of(file);
-    let sizes = block::sizes_of(file);
-    CheckAnswer {
-        number: 0,
-        place: 0,
-        tasks: sizes.tasks,
-        workers: sizes.workers,
-        cells: sizes.cells,
-        version,
-    }
+    accept(file)?;
+    let first = Stated::of(file);
+    Ok(Flow {
+        version: first.version,
+        tasks: first.tasks,
+        workers: first.workers,
+        cells: first.cells,
+    })
 }

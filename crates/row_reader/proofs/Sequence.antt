@@ -1,16 +1,10 @@
 -- The calls of one row reader, one after another. Each is answered at the place where the ones before it left the reader, and moves
 -- it on: so a new reader of an accepted file gives the file's rows in order and then says the end at every call, and one of a
 -- refused file gives the check's own refusal at every call. What holds of `answer_at` at each place holds of the sequence.
-use mathlib.Core.Path.{◌≡◌, refl, sym, ap, ap₂, ◌∙◌}
-use mathlib.Core.Bool.{Bool, true, false, cond}
-use mathlib.Core.List.{List, ◌∷◌, map}
-use Prim.Native.Nat.{ℕ, ◌+◌, ◌*◌, ◌<◌, ◌≤◌, min}
-use native.Mathlib.Omega.{arith}
 use borrow.Author.Tests.{ltb-true, ltb-false}
-use lib.Dec.{ltb}
-use lib.ListN.{length, take, drop, drop_of_length-le}
+use lib.ListN.{drop_of_length-le}
 use lib.Seq.{take_all}
-use denote.Ref.{Bor}
+use Rattle.std.proofs.Common.{◌≡◌, ℕ, ◌+◌, ◌*◌, ◌<◌, ◌≤◌, min, Bool, true, false, cond, ltb, List, ◌∷◌, map, length, take, drop, Some, None, Ok, Bor, refl, sym, ap, ap₂, ◌∙◌, arith}
 use Rattle.layout.specs.Lists.{each, joined}
 use Rattle.layout.specs.Flow.{most_tasks}
 use Rattle.layout.specs.Refusal.{refusal}
@@ -19,12 +13,10 @@ use Rattle.layout.proofs.Lists.{each_same}
 use Rattle.roundtrip.proofs.Pieces.{joined_cut}
 use Rattle.roundtrip.proofs.Read.{file_sizes, row_sized, rows_length, row_there}
 use Rattle.file.proofs.Outcomes.{file_kept, succeeds}
-use Rattle.row_reader.specs.declared.Found.TheVariants.{Row, End}
-use Rattle.row_reader.specs.declared.Fetched.{Fetched}
 use Rattle.row_reader.specs.declared.Rows.{Rows}
-use Rattle.row_reader.specs.Answers.{RowAnswer, case_answer, answer_by, bytes_given, no_row, given, answer_at}
+use Rattle.row_reader.specs.Answers.{RowAnswer, case_answer, answer_by, bytes_given, given, answer_at}
 use Rattle.row_reader.specs.Promises.{StandsAt}
-use Rattle.row_reader.specs.Calls.{Called, no_call, call_then, answer_of_call, GivesRows, GivesRefusal}
+use Rattle.row_reader.specs.Calls.{Item, Called, no_call, call_then, answer_of_call, GivesRows, GivesRefusal}
 use Rattle.row_reader.proofs.Places.{is_up_to, is_past, place_after, goes_on_after}
 use Rattle.row_reader.proofs.Fetches.{with_refusal, without, has_row, has_none, by_answer}
 
@@ -38,7 +30,7 @@ numbered file task =
 
 -- ---- calls of any reader
 
-called_answers : {before after : Rows} {all : List Fetched} → Called before all after
+called_answers : {before after : Rows} {all : List Item} → Called before all after
     → map answer_by all ≡ each (length all) (λ i. answer_at before.file.now (place_after i before.task))
 unfolding place_after each
 called_answers no_call = refl
@@ -46,7 +38,7 @@ called_answers (call_then {later} said rest) =
     ap₂ (λ (first : RowAnswer) (others : List RowAnswer). first ∷ others) said.0
     (called_answers rest ∙ (λ k. each (length later) (λ i. answer_at (said.1.0 k).now (place_after i (said.1.1 k)))))
 
-called_leaves : {before after : Rows} {all : List Fetched} → Called before all after
+called_leaves : {before after : Rows} {all : List Item} → Called before all after
     → StandsAt before.file (place_after (length all) before.task) after
 unfolding place_after
 called_leaves no_call = (refl, refl)
@@ -57,12 +49,12 @@ called_leaves (call_then {later} said rest) =
 -- ---- an accepted file
 
 -- what holds of a row before the last task and of the end after it holds of each answer
-by_call : (file : List ℕ) (i : ℕ) (P : RowAnswer → Type 0) → (i < tasks_of file → P (case_answer Row (row_at file (i + 1))))
-    → (tasks_of file ≤ i → P (case_answer End no_row))
+by_call : (file : List ℕ) (i : ℕ) (P : RowAnswer → Type 0) → (i < tasks_of file → P (case_answer (Ok (Some (row_at file (i + 1))))))
+    → (tasks_of file ≤ i → P (case_answer (Ok None)))
     → P (answer_of_call file i)
 by_call file i P row end = go (ltb i (tasks_of file)) refl
   where
-    go : (b : Bool) → ltb i (tasks_of file) ≡ b → P (cond b (case_answer Row (row_at file (i + 1))) (case_answer End no_row))
+    go : (b : Bool) → ltb i (tasks_of file) ≡ b → P (cond b (case_answer (Ok (Some (row_at file (i + 1))))) (case_answer (Ok None)))
     go true e = row (ltb-true i (tasks_of file) e)
     go false e = end (ltb-false i (tasks_of file) e)
 
@@ -95,7 +87,7 @@ module _ (file : List ℕ) (none : (file_answer file).number ≡ 0) where
 
 -- ---- calls of a reader that `new` makes
 
-module _ {file : Bor (List ℕ)} {reader after : Rows} {all : List Fetched} (made : StandsAt file 1 reader) (called : Called reader all after) where
+module _ {file : Bor (List ℕ)} {reader after : Rows} {all : List Item} (made : StandsAt file 1 reader) (called : Called reader all after) where
   new_answers : map answer_by all ≡ each (length all) (λ i. answer_at file.now (place_after i 1))
   new_answers = called_answers called ∙ (λ k. each (length all) (λ i. answer_at (made.0 k).now (place_after i (made.1 k))))
 

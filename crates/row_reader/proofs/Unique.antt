@@ -1,48 +1,41 @@
 -- Each public function's contract allows one outcome for given inputs. An answer's number, bytes and end tell its case, and with its
 -- place and its row they tell all of it; a reader is told by its file and its place.
-use mathlib.Core.Path.{◌≡◌, refl, sym, ap, ◌∙◌}
-use mathlib.Core.Bool.{false≢true}
-use mathlib.Core.List.{List}
-use Prim.Native.Nat.{ℕ}
-use native.Mathlib.Omega.{arith}
-use denote.Ref.{Bor}
-use Rattle.row_reader.specs.declared.Found.{Found}
-use Rattle.row_reader.specs.declared.Found.TheVariants.{Row, End, Refused}
-use Rattle.row_reader.specs.declared.Fetched.{Fetched}
+use Rattle.std.proofs.Common.{◌≡◌, ℕ, List, Option, Some, None, Result, Ok, Err, Bor, refl, sym, ap, ◌∙◌}
+use Rattle.std.specs.Option.{option_transpose}
+use Rattle.std.specs.Result.{result_transpose}
+use Rattle.layout.specs.Refusal.{refusal}
+use Rattle.refusal.specs.declared.Refusal.{Refusal}
+use Rattle.refusal.proofs.Unique.{refusal_unique}
 use Rattle.row_reader.specs.declared.Rows.{Rows}
-use Rattle.row_reader.specs.Answers.{RowAnswer, case_answer, answer_by}
+use Rattle.row_reader.specs.Answers.{RowAnswer, case_answer}
 use Rattle.row_reader.specs.Promises.{Answered, StandsAt, NextPromise, following}
 
 -- ---- an answer
 
-no_bytes : {A : Type 0} → ◌≡◌ {A = ℕ} 48 0 → A
-no_bytes e = absurd (omega arith)
+-- the bytes and the end tell the case
+differ : {A : Type 0} {a b : RowAnswer} → a ≡ b → (a.bytes ≡ b.bytes → a.ended ≡ b.ended → A) → A
+differ e apart = apart (ap (λ (s : RowAnswer). s.bytes) e) (ap (λ (s : RowAnswer). s.ended) e)
 
-same_found : (f g : Found) (x y : List ℕ) → case_answer f x ≡ case_answer g y → f ≡ g
-same_found Row Row x y e = refl
-same_found Row End x y e = no_bytes (ap (λ (s : RowAnswer). s.bytes) e)
-same_found Row (Refused b) x y e = no_bytes (ap (λ (s : RowAnswer). s.bytes) e)
-same_found End Row x y e = no_bytes (sym (ap (λ (s : RowAnswer). s.bytes) e))
-same_found End End x y e = refl
-same_found End (Refused b) x y e = absurd (false≢true (sym (ap (λ (s : RowAnswer). s.ended) e)))
-same_found (Refused a) Row x y e = no_bytes (sym (ap (λ (s : RowAnswer). s.bytes) e))
-same_found (Refused a) End x y e = absurd (false≢true (ap (λ (s : RowAnswer). s.ended) e))
-same_found (Refused a) (Refused b) x y e = λ i. Refused (record { number = (e i).number; place = (e i).place })
+told : (r s : Result (Option (List ℕ)) Refusal) → case_answer r ≡ case_answer s → r ≡ s
+told (Ok (Some row)) (Ok (Some other)) e = ap (λ (s : RowAnswer). Ok (Some s.row)) e
+told (Ok (Some row)) (Ok None) e = differ e (λ bytes ended. cc)
+told (Ok (Some row)) (Err met) e = differ e (λ bytes ended. cc)
+told (Ok None) (Ok (Some row)) e = differ e (λ bytes ended. cc)
+told (Ok None) (Ok None) e = refl
+told (Ok None) (Err met) e = differ e (λ bytes ended. cc)
+told (Err met) (Ok (Some row)) e = differ e (λ bytes ended. cc)
+told (Err met) (Ok None) e = differ e (λ bytes ended. cc)
+told (Err met) (Err other) e = ap Err (refusal_unique met other (ap (λ (s : RowAnswer). refusal s.number s.place) e))
 
-row_told : (f : Found) (x : List ℕ) → (case_answer f x).row ≡ x
-row_told Row x = refl
-row_told End x = refl
-row_told (Refused a) x = refl
-
-told : (r s : Fetched) → answer_by r ≡ answer_by s → r ≡ s
-told r s e =
-    let same_row : r.row ≡ s.row =
-    sym (row_told r.found r.row) ∙ ap (λ (t : RowAnswer). t.row) e ∙ row_told s.found s.row in
-    λ i. record { found = same_found r.found s.found r.row s.row e i; row = same_row i }
+-- what a reader gives is told by what a fetch gives
+pub transposed : (r : Option (Result (List ℕ) Refusal)) → result_transpose (option_transpose r) ≡ r
+transposed None = refl
+transposed (Some (Ok row)) = refl
+transposed (Some (Err met)) = refl
 
 -- ---- the public functions
 
-pub fetch_unique : (file : List ℕ) (task : ℕ) (r s : Fetched) → Answered file task r → Answered file task s → r ≡ s
+pub fetch_unique : (file : List ℕ) (task : ℕ) (r s : Result (Option (List ℕ)) Refusal) → Answered file task r → Answered file task s → r ≡ s
 fetch_unique file task r s p q = told r s (p ∙ sym q)
 
 reader_unique : (file : Bor (List ℕ)) (task : ℕ) (r s : Rows) → StandsAt file task r → StandsAt file task s → r ≡ s
@@ -51,10 +44,11 @@ reader_unique file task r s p q = λ i. record { file = (p.0 ∙ sym q.0) i; tas
 pub new_unique : (file : Bor (List ℕ)) (r s : Rows) → StandsAt file 1 r → StandsAt file 1 s → r ≡ s
 new_unique file = reader_unique file 1
 
--- the answer, and the reader that is left
-pub next_unique : (before : Rows) (r s : Fetched) (after after' : Rows) → NextPromise before r after → NextPromise before s after'
+-- what is given, and the reader that is left
+pub next_unique : (before : Rows) (r s : Option (Result (List ℕ) Refusal)) (after after' : Rows) → NextPromise before r after
+    → NextPromise before s after'
     → (r ≡ s) × (after ≡ after')
 next_unique before r s after after' p q = (
-  fetch_unique before.file.now before.task r s p.0 q.0,
+  sym (transposed r) ∙ ap result_transpose (fetch_unique before.file.now before.task _ _ p.0 q.0) ∙ transposed s,
   reader_unique before.file (following before.task) after after' p.1 q.1,
 )

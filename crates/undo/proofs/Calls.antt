@@ -13,11 +13,9 @@ use Rattle.roundtrip.proofs.Answers.{file_keeps, rows_keep, keep_rows}
 use Rattle.roundtrip.proofs.Read.{rows_length}
 use Rattle.roundtrip.proofs.Theorems.{ReadBack, reader_after_writer}
 use Rattle.file.proofs.Outcomes.{rows_stand}
-use Rattle.reader.specs.declared.ReadAnswer.{ReadAnswer}
-use Rattle.reader.specs.Answers.{read_with}
+use Rattle.reader.specs.Answers.{ReadAnswer, read_with}
 use Rattle.reader.specs.Promises.{ReadPromise}
-use Rattle.writer.specs.declared.WriteAnswer.{WriteAnswer}
-use Rattle.writer.specs.Answers.{write_with}
+use Rattle.writer.specs.Answers.{WriteAnswer, write_with}
 use Rattle.writer.specs.Promises.{WritePromise}
 use Rattle.undo.specs.Undo.{ReadGives, WriteGives}
 use Rattle.undo.proofs.Filled.{Filled, rules_kept, tells_success, stands_first, rest_stays}

@@ -16,10 +16,9 @@ use Rattle.layout.specs.Write.{row_count, rows_answer}
 use Rattle.roundtrip.specs.Larger.{without_larger}
 use Rattle.roundtrip.proofs.Answers.{file_keeps, keeps_file}
 use Rattle.roundtrip.proofs.Theorems as ByRules
-use Rattle.reader.specs.declared.ReadAnswer.{ReadAnswer}
+use Rattle.reader.specs.Answers.{ReadAnswer}
 use Rattle.reader.specs.Promises.{ReadPromise}
-use Rattle.writer.specs.declared.WriteAnswer.{WriteAnswer}
-use Rattle.writer.specs.Answers.{write_with}
+use Rattle.writer.specs.Answers.{WriteAnswer, write_with}
 use Rattle.writer.specs.Promises.{WritePromise}
 use Rattle.undo.specs.Undo.{ReaderAfterWriter, WriterAfterReader}
 use Rattle.undo.proofs.Filled.{rules_kept, fits, refused_16, refused_first}

@@ -6,11 +6,9 @@ use Rattle.layout.specs.Refusal.{refusal}
 use Rattle.layout.specs.File.{flow_of}
 use Rattle.layout.specs.Write.{row_count}
 use Rattle.roundtrip.specs.Larger.{without_larger, FirstLarger}
-use Rattle.reader.specs.declared.ReadAnswer.{ReadAnswer}
-use Rattle.reader.specs.Answers.{read_refused}
+use Rattle.reader.specs.Answers.{ReadAnswer, read_refused}
 use Rattle.reader.specs.Promises.{ReadPromise}
-use Rattle.writer.specs.declared.WriteAnswer.{WriteAnswer}
-use Rattle.writer.specs.Answers.{write_refused}
+use Rattle.writer.specs.Answers.{WriteAnswer, write_refused}
 use Rattle.writer.specs.Promises.{WritePromise}
 
 -- ---- what the second call gives
