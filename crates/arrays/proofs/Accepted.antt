@@ -12,10 +12,10 @@ use Rattle.layout.proofs.Lists.{and_both}
 use Rattle.layout.proofs.Modes.{access_cell, operation_cells}
 use Rattle.roundtrip.proofs.Rows.{RowKept, row_keeps}
 use Rattle.roundtrip.proofs.Read.{file_sizes, row_sized}
-use Rattle.file.specs.declared.CheckAnswer.{CheckAnswer}
+use Rattle.file.specs.Answers.{CheckAnswer}
 use Rattle.file.specs.Promises.{CheckPromise}
 use Rattle.file.proofs.Outcomes.{file_kept, rows_stand, accepted, tasks_are, cells_are}
-use Rattle.arrays.specs.Arrays.{RowFits, Ready}
+use Rattle.arrays.specs.Ready.{RowFits, Ready}
 
 -- ---- a row that keeps the rules
 

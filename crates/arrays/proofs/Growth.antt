@@ -15,7 +15,8 @@ use Rattle.layout.proofs.Lists.{each-length, each_at}
 use Rattle.steps.specs.Operations.{Effect}
 use Rattle.steps.specs.Machine.{Counter, Place, Machine, put, counter, place, with_place}
 use Rattle.steps.specs.Step.{Try, wait_write, wait_reads, operate, end_read, zero_reads, post_write, writes, Setting, Outcome, outcome, moved, advanced, past_last, write_differs, reads_differ, after_read, registered, register_all, change, attempted, own_steps, own_step, other_step, step_from, step}
-use Rattle.arrays.specs.Arrays.{ReadsAtMost, Ready, setting_in}
+use Rattle.arrays.specs.Ready.{Ready}
+use Rattle.arrays.specs.Arrays.{ReadsAtMost, setting_in}
 use Rattle.arrays.proofs.Places.{access_count, shown_within}
 
 -- a higher limit
@@ -30,20 +31,12 @@ more_reads n k m h r =
 
 put_reads : (limit : ℕ) (row : ℕ → Counter) (cell : ℕ) (now : Counter) → ((c : ℕ) → (row c).reads ≤ limit) → now.reads ≤ limit
     → (c : ℕ) → (put row cell now c).reads ≤ limit
-put_reads limit row cell now h l c = go (eqb c cell)
-  where
-    go : (same : Bool) → (cond same now (row c)).reads ≤ limit
-    go true = l
-    go false = h c
+put_reads limit row cell now h l c = elim (eqb c cell) as (λ same. (cond same now (row c)).reads ≤ limit) [ true ↦ l | false ↦ h c ]
 
 put_row_reads : (limit : ℕ) (rows : ℕ → ℕ → Counter) (w : ℕ) (row : ℕ → Counter) → ((v c : ℕ) → (rows v c).reads ≤ limit)
     → ((c : ℕ) → (row c).reads ≤ limit)
     → (v c : ℕ) → (put rows w row v c).reads ≤ limit
-put_row_reads limit rows w row h l v c = go (eqb v w)
-  where
-    go : (same : Bool) → (cond same row (rows v) c).reads ≤ limit
-    go true = l c
-    go false = h v c
+put_row_reads limit rows w row h l v c = elim (eqb v w) as (λ same. (cond same row (rows v) c).reads ≤ limit) [ true ↦ l c | false ↦ h v c ]
 
 -- ---- an own step
 
@@ -57,10 +50,10 @@ change_reads n does number m w (operate o) r =
 change_reads n does number m w (end_read c) r =
     let more = more_reads n (n + 1) m (omega arith) r in
     record {
-      shared_reads = put_reads (n + 1) m.shared c (after_read (m.shared c)) more.shared_reads (omega (arith, r.shared_reads c));
+      shared_reads = put_reads (n + 1) m.shared c _ more.shared_reads (omega (arith, r.shared_reads c));
       private_reads =
-          put_row_reads (n + 1) m.private w (put (m.private w) c (after_read (m.private w c))) more.private_reads
-          (put_reads (n + 1) (m.private w) c (after_read (m.private w c)) (more.private_reads w) (omega (arith, r.private_reads w c)));
+          put_row_reads (n + 1) m.private w _ more.private_reads
+          (put_reads (n + 1) (m.private w) c _ (more.private_reads w) (omega (arith, r.private_reads w c)));
     }
 change_reads n does number m w (zero_reads c) r =
     let more = more_reads n (n + 1) m (omega arith) r in
@@ -71,9 +64,9 @@ change_reads n does number m w (zero_reads c) r =
 change_reads n does number m w (post_write c) r =
     let more = more_reads n (n + 1) m (omega arith) r in
     record {
-      shared_reads = put_reads (n + 1) m.shared c (counter number (m.shared c).reads) more.shared_reads (more.shared_reads c);
+      shared_reads = put_reads (n + 1) m.shared c _ more.shared_reads (more.shared_reads c);
       private_reads =
-          put_row_reads (n + 1) m.private w (put (m.private w) c (counter number 0)) more.private_reads
+          put_row_reads (n + 1) m.private w _ more.private_reads
           (put_reads (n + 1) (m.private w) c (counter number 0) (more.private_reads w) (omega arith));
     }
 

@@ -2,6 +2,5 @@
 pub mod Places
 pub mod Machines
 pub mod Changes
-pub mod Rows
 pub mod Growth
 pub mod Accepted

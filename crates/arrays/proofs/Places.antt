@@ -18,7 +18,10 @@ use Rattle.layout.proofs.Lists.{each-length, each_at}
 use Rattle.layout.proofs.Modes.{each-drop}
 use Rattle.steps.specs.Machine.{place}
 use Rattle.steps.specs.Step.{Try, wait_write, wait_reads, operate, end_read, zero_reads, post_write, writes, waits, ends, of_each, own_steps, moved}
-use Rattle.arrays.specs.Arrays.{width, width_before, width_of, made_at, made_in, numbers_of, place_of, try_at, Stands, after_wait, after_end, next_place, Placed}
+use Rattle.arrays.specs.declared.Stage.{Stage}
+use Rattle.arrays.specs.declared.Stage.TheVariants.{WaitWrite, WaitReads, Operate, End, Post}
+use Rattle.arrays.specs.declared.Place.{Place}
+use Rattle.arrays.specs.Arrays.{width, width_before, width_of, made_at, made_in, place_at, place_of, try_at, Stands, after_wait, after_end, next_place, Placed}
 
 -- ---- the steps of each access, laid end to end
 
@@ -78,9 +81,7 @@ width_more : (accesses : List Access) (index : ℕ) (none : Access) → index < 
 unfolding width_before
 width_more [] index none h = absurd (not-suc-le-zero h)
 width_more (access ∷ accesses) zero none h = let start = width_none accesses in omega arith
-width_more (access ∷ accesses) (suc index) none h =
-    ap (λ (k : ℕ). width access + k) (width_more accesses index none (le_of_suc-le-suc h))
-    ∙ sym (add_assoc (width access) (width_before accesses index) (width (get_or accesses index none)))
+width_more (access ∷ accesses) (suc index) none h = omega (arith, width_more accesses index none (le_of_suc-le-suc h))
 
 -- ---- a list from some index on
 
@@ -98,8 +99,8 @@ module _ {A : Type 0} (l : List A) (k : ℕ) (x : A) (rest : List A) (e : drop k
 -- and so it does of what is made of each element
 shown_made : {A B : Type 0} (f : A → B) (l : List A) (k : ℕ) (x : A) (rest : List A) (after : List B) → drop k l ≡ x ∷ rest
     → drop k (map f l ++ after) ≡ f x ∷ (map f rest ++ after)
-shown_made f l zero x rest after e = ap (λ (t : List _). map f t ++ after) e
-shown_made f [] (suc k) x rest after e = absurd (let none : 0 ≡ suc (length rest) = ap length e in omega arith)
+shown_made f l zero x rest after e = rw e
+shown_made f [] (suc k) x rest after e = cc
 shown_made f (y ∷ l) (suc k) x rest after e = shown_made f l k x rest after e
 
 -- ---- the task that stands in a row
@@ -200,59 +201,58 @@ module _ (row : List ℕ) where
             ∙ ap (λ (access : Access). ends access ++ rest) (access_there index (access_at row index) h),
       )
 
-  try_shown : (stage index : ℕ) → Stands row stage index
+  try_shown : (stage : Stage) (index : ℕ) → Stands row stage index
       → (rest : List Try) × (drop (made_at task stage index) own ≡ try_at row stage index ∷ rest)
   unfolding Stands made_at try_at
-  try_shown zero index h =
+  try_shown WaitWrite index h =
       let cell = (access_at row index).cell in
       let there = waits_there index h in
       let first = first_of (wait_write cell) (wait_reads cell) (wait_write cell) (writes (access_at row index)) there.0 in
       (first.0, there.1 ∙ first.1 ∙ ap (λ (try : Try). try ∷ first.0) (either_way (wait_write cell) (writes (access_at row index))))
-  try_shown (suc zero) index h =
+  try_shown WaitReads index h =
       let cell = (access_at row index).cell in
       let there = waits_there index h.0 in
       let both = both_of (wait_write cell) (wait_reads cell) (wait_write cell) (writes (access_at row index)) there.0 h.1 in
       (there.0, shown_next own (width_before accesses index) (wait_write cell) (wait_reads cell ∷ there.0) (there.1 ∙ both))
-  try_shown (suc (suc zero)) index h = operate_there index h
-  try_shown (suc (suc (suc zero))) index h =
+  try_shown Operate index h = operate_there index h
+  try_shown End index h =
       let cell = (access_at row index).cell in
       let there = ends_there index h in
       let first = first_of (zero_reads cell) (post_write cell) (end_read cell) (writes (access_at row index)) there.0 in
       (first.0, there.1 ∙ first.1)
-  try_shown (suc (suc (suc (suc zero)))) index h =
+  try_shown Post index h =
       let cell = (access_at row index).cell in
       let there = ends_there index h.0 in
       let both = both_of (zero_reads cell) (post_write cell) (end_read cell) (writes (access_at row index)) there.0 h.1 in
       let before : ℕ = width_of task + length operations + width_before accesses index in
       (there.0, shown_next own before (zero_reads cell) (post_write cell ∷ there.0) (there.1 ∙ both))
-  try_shown (suc (suc (suc (suc (suc stage))))) index h = absurd h
 
   -- the own steps that are left begin with it
-  pub try_there : (stage index : ℕ) → Stands row stage index
+  pub try_there : (stage : Stage) (index : ℕ) → Stands row stage index
       → drop (made_at task stage index) own ≡ try_at row stage index ∷ drop (made_at task stage index + 1) own
   try_there stage index h =
       shown own (made_at task stage index) (try_at row stage index) (try_shown stage index h).0 (try_shown stage index h).1
 
   -- fewer of them are made than there are
-  made_within : (stage index : ℕ) → Stands row stage index → made_at task stage index < length own
+  made_within : (stage : Stage) (index : ℕ) → Stands row stage index → made_at task stage index < length own
   made_within stage index h =
       shown_within own (made_at task stage index) (try_at row stage index) (try_shown stage index h).0 (try_shown stage index h).1
 
 -- ---- the next place
 
 -- after so many own steps a worker stands in the same task, one own step further, or it has made the task's last
-data Next (row : List ℕ) (passed made : ℕ) : List ℕ → Type 0 where
-  within : (stage index : ℕ) → Stands row stage index → made_at (task_of row) stage index ≡ made + 1
-      → Next row passed made (numbers_of passed stage index)
-  beyond : made + 1 ≡ length (own_steps (task_of row)) → Next row passed made (numbers_of (passed + 1) 0 0)
+data Next (row : List ℕ) (passed made : ℕ) : Place → Type 0 where
+  within : (stage : Stage) (index : ℕ) → Stands row stage index → made_at (task_of row) stage index ≡ made + 1
+      → Next row passed made (place_at passed stage index)
+  beyond : made + 1 ≡ length (own_steps (task_of row)) → Next row passed made (place_at (passed + 1) WaitWrite 0)
 
 module _ (row : List ℕ) (passed made : ℕ) where
-  ends_begin : 1 ≤ get_or row 1 0 → made + 1 ≡ width_of (task_of row) + get_or row 2 0 → Next row passed made (numbers_of passed 3 0)
+  ends_begin : 1 ≤ get_or row 1 0 → made + 1 ≡ width_of (task_of row) + get_or row 2 0 → Next row passed made (place_at passed End 0)
   unfolding Stands made_at
   ends_begin some e =
       let start = width_none (task_of row).accesses in
       let count = operation_count row in
-      within 3 0 some (omega arith)
+      within End 0 some (omega arith)
 
   -- the last wait of an access is made
   after_wait_lem : (index : ℕ) → index < get_or row 1 0 → made + 1 ≡ width_before (task_of row).accesses (index + 1)
@@ -266,20 +266,20 @@ module _ (row : List ℕ) (passed made : ℕ) where
           e ∙ ap (width_before (task_of row).accesses) none_left ∙ sym (width_all row)
 
       go : (more : Bool) → ltb (index + 1) (get_or row 1 0) ≡ more → (some : Bool) → ltb 0 (get_or row 2 0) ≡ some
-          → Next row passed made (cond more (numbers_of passed 0 (index + 1)) (cond some (numbers_of passed 2 0) (numbers_of passed 3 0)))
-      go true t some u = within 0 (index + 1) (ltb-true _ _ t) (sym e)
-      go false t true u = within 2 0 (ltb-true _ _ u) (let all_made = last t in omega arith)
+          → Next row passed made (cond more (place_at passed WaitWrite (index + 1)) (cond some (place_at passed Operate 0) (place_at passed End 0)))
+      go true t some u = within WaitWrite (index + 1) (ltb-true _ _ t) (sym e)
+      go false t true u = within Operate 0 (ltb-true _ _ u) (let all_made = last t in omega arith)
       go false t false u = ends_begin (omega arith) (let all_made = last t in omega (arith, ltb-false 0 (get_or row 2 0) u))
 
   -- an operation is made
   after_operation : (index : ℕ) → 1 ≤ get_or row 1 0 → index < get_or row 2 0 → made ≡ width_of (task_of row) + index
-      → Next row passed made (next_place row passed 2 index)
+      → Next row passed made (next_place row passed Operate index)
   unfolding Stands made_at next_place
   after_operation index some h e = go (ltb (index + 1) (get_or row 2 0)) refl
     where
       go : (more : Bool) → ltb (index + 1) (get_or row 2 0) ≡ more
-          → Next row passed made (cond more (numbers_of passed 2 (index + 1)) (numbers_of passed 3 0))
-      go true t = within 2 (index + 1) (ltb-true _ _ t) (omega arith)
+          → Next row passed made (cond more (place_at passed Operate (index + 1)) (place_at passed End 0))
+      go true t = within Operate (index + 1) (ltb-true _ _ t) (omega arith)
       go false t = ends_begin some (omega (arith, ltb-false (index + 1) (get_or row 2 0) t))
 
   -- the last end of an access is made
@@ -290,8 +290,8 @@ module _ (row : List ℕ) (passed made : ℕ) where
   after_end_lem index h e = go (ltb (index + 1) (get_or row 1 0)) refl
     where
       go : (more : Bool) → ltb (index + 1) (get_or row 1 0) ≡ more
-          → Next row passed made (cond more (numbers_of passed 3 (index + 1)) (numbers_of (passed + 1) 0 0))
-      go true t = within 3 (index + 1) (ltb-true _ _ t) (sym e)
+          → Next row passed made (cond more (place_at passed End (index + 1)) (place_at (passed + 1) WaitWrite 0))
+      go true t = within End (index + 1) (ltb-true _ _ t) (sym e)
       go false t =
           let none_left : index + 1 ≡ get_or row 1 0 = omega (arith, ltb-false (index + 1) (get_or row 1 0) t) in
           let all_made : width_before (task_of row).accesses (index + 1) ≡ width_of (task_of row) =
@@ -299,43 +299,42 @@ module _ (row : List ℕ) (passed made : ℕ) where
           in
           beyond (omega (arith, all_own_steps row))
 
-next_is : (row : List ℕ) (passed stage index : ℕ) → 1 ≤ get_or row 1 0 → Stands row stage index
+next_is : (row : List ℕ) (passed : ℕ) (stage : Stage) (index : ℕ) → 1 ≤ get_or row 1 0 → Stands row stage index
     → Next row passed (made_at (task_of row) stage index) (next_place row passed stage index)
 unfolding Stands made_at next_place
-next_is row passed zero index some h = go (writes (access_at row index)) refl
+next_is row passed WaitWrite index some h = go (writes (access_at row index)) refl
   where
     made : ℕ
     made = width_before (task_of row).accesses index
 
     go : (is_write : Bool) → writes (access_at row index) ≡ is_write
-        → Next row passed made (cond is_write (numbers_of passed 1 index) (after_wait row passed index))
-    go true t = within 1 index (h, t) refl
+        → Next row passed made (cond is_write (place_at passed WaitReads index) (after_wait row passed index))
+    go true t = within WaitReads index (h, t) refl
     go false t = after_wait_lem row passed made index h (omega (arith, width_next row index false h t))
-next_is row passed (suc zero) index some h =
+next_is row passed WaitReads index some h =
     after_wait_lem row passed (width_before (task_of row).accesses index + 1) index h.0 (omega (arith, width_next row index true h.0 h.1))
-next_is row passed (suc (suc zero)) index some h = after_operation row passed (width_of (task_of row) + index) index some h refl
-next_is row passed (suc (suc (suc zero))) index some h = go (writes (access_at row index)) refl
+next_is row passed Operate index some h = after_operation row passed (width_of (task_of row) + index) index some h refl
+next_is row passed End index some h = go (writes (access_at row index)) refl
   where
     made : ℕ
     made = width_of (task_of row) + length (task_of row).operations + width_before (task_of row).accesses index
 
     go : (is_write : Bool) → writes (access_at row index) ≡ is_write
-        → Next row passed made (cond is_write (numbers_of passed 4 index) (after_end row passed index))
-    go true t = within 4 index (h, t) refl
+        → Next row passed made (cond is_write (place_at passed Post index) (after_end row passed index))
+    go true t = within Post index (h, t) refl
     go false t = after_end_lem row passed made index h (omega (arith, width_next row index false h t))
-next_is row passed (suc (suc (suc (suc zero)))) index some h =
+next_is row passed Post index some h =
     after_end_lem row passed (width_of (task_of row) + length (task_of row).operations + width_before (task_of row).accesses index + 1) index h.0
     (omega (arith, width_next row index true h.0 h.1))
-next_is row passed (suc (suc (suc (suc (suc stage))))) index some h = absurd h
 
 -- ---- the next place, as the rules count it
 
-pub none_made : (tasks : List Task) → made_in tasks 0 0 ≡ 0
+pub none_made : (tasks : List Task) → made_in tasks WaitWrite 0 ≡ 0
 unfolding made_in made_at
 none_made [] = refl
 none_made (task ∷ later) = width_none task.accesses
 
-pub next_there : (row : List ℕ) (passed stage index : ℕ) (tasks later : List Task) → 1 ≤ get_or row 1 0 → Stands row stage index
+pub next_there : (row : List ℕ) (passed : ℕ) (stage : Stage) (index : ℕ) (tasks later : List Task) → 1 ≤ get_or row 1 0 → Stands row stage index
     → drop passed tasks ≡ task_of row ∷ later
     → place_of tasks (next_place row passed stage index) ≡ moved (task_of row) (place passed (made_at (task_of row) stage index))
 unfolding made_in
@@ -351,7 +350,7 @@ next_there row passed stage index tasks later some h e = go (next_place row pass
         → cond more (place passed (made + 1)) (place (passed + 1) 0) ≡ moved (task_of row) (place passed made)
     tested more t = sym (ap (λ (b : Bool). cond b (place passed (made + 1)) (place (passed + 1) 0)) t)
 
-    go : (next : List ℕ) → Next row passed made next → place_of tasks next ≡ moved (task_of row) (place passed made)
+    go : (next : Place) → Next row passed made next → place_of tasks next ≡ moved (task_of row) (place passed made)
     go next (within s i stands is) =
         ap (λ (left : List Task). place passed (made_in left s i)) e ∙ ap (place passed) is
         ∙ tested true (lt-ltb (made + 1) steps (omega (arith, made_within row s i stands)))
@@ -362,12 +361,12 @@ next_there row passed stage index tasks later some h e = go (next_place row pass
 
 -- the place where a task begins
 pub begun : (file : List ℕ) (tasks passed : ℕ) → ((task : ℕ) → 1 ≤ task → task ≤ tasks → 1 ≤ get_or (row_at file task) 1 0)
-    → Placed file tasks (numbers_of passed 0 0)
+    → Placed file tasks (place_at passed WaitWrite 0)
 unfolding Stands
 begun file tasks passed some = record { starts = refl; stands = λ left. some (passed + 1) (omega arith) (omega arith) }
 
 -- the worker stands somewhere in the next task, if there is one
-pub next_placed : (file : List ℕ) (tasks passed stage index : ℕ)
+pub next_placed : (file : List ℕ) (tasks passed : ℕ) (stage : Stage) (index : ℕ)
     → ((task : ℕ) → 1 ≤ task → task ≤ tasks → 1 ≤ get_or (row_at file task) 1 0)
     → passed < tasks
     → Stands (row_at file (passed + 1)) stage index
@@ -381,6 +380,6 @@ next_placed file tasks passed stage index some h stands =
     made : ℕ
     made = made_at (task_of row) stage index
 
-    go : (next : List ℕ) → Next row passed made next → Placed file tasks next
+    go : (next : Place) → Next row passed made next → Placed file tasks next
     go next (within s i there is) = record { starts = refl; stands = λ left. there }
     go next (beyond is) = begun file tasks (passed + 1) some

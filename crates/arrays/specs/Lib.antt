@@ -1,2 +1,3 @@
--- What the stepped run's arrays stand for.
+-- What the stepped run's arrays stand for, and what a file must be for a run.
+pub mod Ready
 pub mod Arrays

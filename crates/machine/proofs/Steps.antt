@@ -8,19 +8,24 @@ use native.Mathlib.Omega.{arith}
 use borrow.Author.Tests.{eq-eqb, ne_eqb}
 use lib.ListN.{length, get_or, set, drop, length-set}
 use lib.Dec.{eqb}
+use Rattle.std.specs.Prelude.{Err}
 use Rattle.layout.specs.Flow.{Access, Task, most_workers, most_cells}
 use Rattle.layout.specs.Row.{task_of}
 use Rattle.layout.specs.File.{row_at, tasks_in}
 use Rattle.layout.proofs.Modes.{each-drop, each-drop-all}
 use Rattle.steps.specs.Operations.{Effect, effect}
-use Rattle.steps.specs.Machine.{Place, Machine, place, with_row, with_place}
+use Rattle.steps.specs.Machine as Rules
+use Rattle.steps.specs.Machine.{Machine, place, with_row, with_place}
 use Rattle.steps.specs.Step.{Try, wait_write, wait_reads, operate, end_read, zero_reads, post_write, Outcome, advanced, past_last, write_differs, reads_differ, outcome, register_all, change, own_steps, moved, stepped, attempted, own_step, other_step, step_from, step}
-use Rattle.arrays.specs.Arrays.{Arrays, arrays, machine_of, numbers_of, place_of, try_at, Stands, next_place, made_in, made_at, noted_all, Shape, RowFits, Ready, Placed, Standing, Steppable, setting_in, passed_at, stage_at, index_at, moves_on, goes_to, places_after, OwnStep, StepDone}
+use Rattle.arrays.specs.declared.Stage.{Stage}
+use Rattle.arrays.specs.declared.Stage.TheVariants.{WaitWrite}
+use Rattle.arrays.specs.declared.Place.{Place}
+use Rattle.arrays.specs.Ready.{RowFits, Ready}
+use Rattle.arrays.specs.Arrays.{Arrays, arrays, machine_of, place_at, place_of, no_place, try_at, Stands, next_place, made_in, made_at, noted_all, Shape, Placed, Standing, Steppable, setting_in, passed_at, stage_at, index_at, Changed, moves_on, OwnStep, StepDone}
 use Rattle.arrays.proofs.Places.{access_count, access_there, try_there, next_there, begun, next_placed, none_made}
 use Rattle.arrays.proofs.Machines.{stored_at, all_noted_only, row_replaced, place_stored, outcome_of_lem, change_of}
-use Rattle.arrays.proofs.Changes.{ChangedBy}
-use Rattle.machine.specs.declared.Outcome as Code
-use Rattle.machine.specs.declared.Outcome.TheVariants.{Advanced, PastLast, WriteDiffers, ReadsDiffer}
+use Rattle.machine.specs.declared.Held.{Held}
+use Rattle.machine.specs.declared.Held.TheVariants.{PastLast, WriteDiffers, ReadsDiffer}
 use Rattle.machine.specs.Outcomes.{outcome_of}
 
 -- ---- an own step
@@ -36,11 +41,10 @@ change_size does number m w (zero_reads c) = refl
 change_size does number m w (post_write c) = refl
 
 -- with every outcome but that of an advancing step the worker stays
-pub stays : (why : Code.Outcome) → (why ≡ Advanced → ⊥) → moves_on (outcome_of why) ≡ false
-stays Advanced other = absurd (other refl)
-stays PastLast other = refl
-stays (WriteDiffers cell) other = refl
-stays (ReadsDiffer cell) other = refl
+pub stays : (why : Held) → moves_on (outcome_of (Err why)) ≡ false
+stays PastLast = refl
+stays (WriteDiffers cell) = refl
+stays (ReadsDiffer cell) = refl
 
 -- and then the machine is left
 held_back : (why : Outcome) → moves_on why ≡ false → (m after : Machine) → stepped why m ≡ attempted why m after
@@ -54,45 +58,37 @@ module _ (version : ℕ) (row : List ℕ) (w : ℕ) (kept : Arrays) where
   abbrev try : Try
   try = try_at row (stage_at kept w) (index_at kept w)
 
-  abbrev then : List ℕ
+  abbrev then : Place
   then = next_place row (passed_at kept w) (stage_at kept w) (index_at kept w)
 
   abbrev number : ℕ
   number = passed_at kept w + 1
 
   -- the counters say that it advances, the change is made, and the next place is stored
-  pub own_step_made : (why : Outcome) (cells' : List ℕ) (shared' : List (List ℕ)) (private' : List (List (List ℕ))) (next : List ℕ)
-      → why ≡ advanced
-      → why ≡ outcome (machine_of [] (arrays [] kept.shared kept.private [])) w try
-      → ChangedBy version w number (arrays kept.cells kept.shared kept.private []) try (arrays cells' shared' private' [])
-      → next ≡ then
+  pub own_step_made : (to : Arrays) → advanced ≡ outcome (machine_of [] (arrays [] kept.shared kept.private kept.places)) w try
+      → Changed version row w number (stage_at kept w) (index_at kept w) kept to
+      → to.places ≡ kept.places
       → w < length kept.places
-      → OwnStep version row w kept why (arrays cells' shared' private' (set kept.places w next))
+      → OwnStep version row w kept advanced (arrays to.cells to.shared to.private (set to.places w then))
   unfolding attempted
-  own_step_made why cells' shared' private' next e told changed is h =
+  own_step_made to told changed same h =
       record {
         shape = changed.0;
         cells_size =
-            ap (λ (m : Machine). length m.cells) changed.1
-            ∙ change_size (effect version) number (machine_of [] (arrays kept.cells kept.shared kept.private [])) w try;
-        places_are =
-            ap (set kept.places w) is ∙ ap (λ (y : Outcome). places_after y kept.places w then) (sym e);
+            ap (λ (m : Machine). length m.cells) changed.1 ∙ change_size (effect version) number (machine_of [] kept) w try;
+        places_are = ap (λ (places : List Place). set places w then) same;
         machine_is = λ tasks.
             let m = machine_of tasks kept in
-            let changed_to = change (effect version) number m w try in
-            let made = with_place changed_to w (place_of tasks then) in
-            ap (stepped why)
-            (place_stored tasks (arrays cells' shared' private' kept.places) w next h
-            ∙ ap (λ (to : Machine). with_place to w (place_of tasks next))
-            (change_of tasks kept cells' shared' private' (effect version) number w try changed.1)
-            ∙ ap (λ (to : List ℕ). with_place changed_to w (place_of tasks to)) is)
-            ∙ ap (λ (y : Outcome). stepped y made) e
-            ∙ ap (λ (y : Outcome). attempted y m made) (sym e ∙ told ∙ outcome_of_lem tasks kept w try);
+            let made = with_place (change (effect version) number m w try) w (place_of tasks then) in
+            ap (stepped advanced)
+            (place_stored tasks to w then (omega (arith, ap (length {A = Place}) same))
+            ∙ ap (λ (now : Machine). with_place now w (place_of tasks then)) (change_of tasks kept to same (effect version) number w try changed.1))
+            ∙ ap (λ (y : Outcome). attempted y m made) (told ∙ outcome_of_lem tasks kept w try);
       }
 
   -- the counters say why it is held
   pub own_step_held : (why : Outcome) → Shape kept.shared kept.private
-      → why ≡ outcome (machine_of [] (arrays [] kept.shared kept.private [])) w try
+      → why ≡ outcome (machine_of [] (arrays [] kept.shared kept.private kept.places)) w try
       → moves_on why ≡ false
       → OwnStep version row w kept why kept
   own_step_held why shape told held =
@@ -109,15 +105,15 @@ module _ (version : ℕ) (row : List ℕ) (w : ℕ) (kept : Arrays) where
 -- ---- a step of a named worker
 
 -- a worker that stands somewhere else leaves the others where they stand
-standing_kept : (file : List ℕ) (tasks : ℕ) (places : List (List ℕ)) (w : ℕ) (next : List ℕ) → Standing file tasks places → w < length places
+standing_kept : (file : List ℕ) (tasks : ℕ) (places : List Place) (w : ℕ) (next : Place) → Standing file tasks places → w < length places
     → Placed file tasks next
     → Standing file tasks (set places w next)
 standing_kept file tasks places w next standing h placed =
-    record { placed = λ v l. subst (Placed file tasks) (sym (stored_at places w next [] v h)) (go v l (eqb v w)) }
-  where
-    go : (v : ℕ) → v < most_workers → (same : Bool) → Placed file tasks (cond same next (get_or places v []))
-    go v l true = placed
-    go v l false = standing.placed v l
+    record {
+      placed = λ v l.
+          rw (stored_at places w next no_place v h)
+          (elim (eqb v w) as (λ same. Placed file tasks (cond same next (get_or places v no_place))) [ true ↦ placed | false ↦ standing.placed v l ]);
+    }
 
 module _ (file : List ℕ) (version tasks w : ℕ) (kept : Arrays) (sound : Steppable file tasks kept) (h : w < most_workers) where
   abbrev passed : ℕ
@@ -155,12 +151,6 @@ module _ (file : List ℕ) (version tasks w : ℕ) (kept : Arrays) (sound : Step
     some : (task : ℕ) → 1 ≤ task → task ≤ tasks → 1 ≤ get_or (row_at file task) 1 0
     some task low high = (sound.ready.rows task low high).some_access
 
-    -- where the worker moves on to, by whether it owns the task
-    goes_to_lem : (is_owner : Bool) → eqb (get_or row 0 0) w ≡ is_owner
-        → cond is_owner (next_place row passed (stage_at kept w) (index_at kept w)) (numbers_of (passed + 1) 0 0) ≡ goes_to file kept w
-    goes_to_lem is_owner t =
-        ap (λ (b : Bool). cond b (next_place row passed (stage_at kept w) (index_at kept w)) (numbers_of (passed + 1) 0 0)) (sym t)
-
     -- the step at the task there, by whether the worker owns it
     step_at : (is_owner : Bool) → eqb (get_or row 0 0) w ≡ is_owner
         → step (setting_in file version tasks) m w
@@ -178,33 +168,31 @@ module _ (file : List ℕ) (version tasks w : ℕ) (kept : Arrays) (sound : Step
         t
 
     -- a task of another owner
-    pub step_other : (private' : List (List (List ℕ))) (next : List ℕ) → (get_or row 0 0 ≡ w → ⊥)
-        → private' ≡ noted_all kept.private w (passed + 1) (task_of row).accesses
-        → next ≡ numbers_of (passed + 1) 0 0
-        → StepDone file version tasks w kept advanced (arrays kept.cells kept.shared private' (set kept.places w next))
-    step_other private' next other is next_is =
+    pub step_other : (get_or row 0 0 ≡ w → ⊥)
+        → StepDone file version tasks w kept advanced
+        (arrays kept.cells kept.shared (noted_all kept.private w (passed + 1) (task_of row).accesses)
+        (set kept.places w (place_at (passed + 1) WaitWrite 0)))
+    step_other other =
         let all = tasks_in file tasks in
         let accesses = (task_of row).accesses in
         let noted_in = noted_all kept.private w (passed + 1) accesses in
+        let next = place_at (passed + 1) WaitWrite 0 in
         let row' = register_all (passed + 1) accesses (m.private w) in
         let only = all_noted_only kept.shared w (passed + 1) h kept.private accesses counted sound.shape in
         record {
           sound =
               record {
                 ready = sound.ready;
-                shape = subst (Shape kept.shared) (sym is) only.shape;
+                shape = only.shape;
                 places_size = length-set kept.places w next ∙ sound.places_size;
                 standing =
-                    standing_kept file tasks kept.places w next sound.standing has_place
-                    (subst (Placed file tasks) (sym next_is) (begun file tasks (passed + 1) some));
+                    standing_kept file tasks kept.places w next sound.standing has_place (begun file tasks (passed + 1) some);
               };
-          places_are = ap (set kept.places w) (next_is ∙ goes_to_lem false (ne_eqb (get_or row 0 0) w other));
+          places_are = rw (ne_eqb (get_or row 0 0) w other);
           machine_is =
               ap (stepped advanced)
-              (ap (λ (p : List (List (List ℕ))). machine_of all (arrays kept.cells kept.shared p (set kept.places w next))) is
-              ∙ place_stored all (arrays kept.cells kept.shared noted_in kept.places) w next has_place
+              (place_stored all (arrays kept.cells kept.shared noted_in kept.places) w next has_place
               ∙ ap (λ (to : Machine). with_place to w (place_of all next)) (row_replaced all kept noted_in w row' only)
-              ∙ ap (λ (to : List ℕ). with_place (with_row m w row') w (place_of all to)) next_is
               ∙ ap (λ (made : ℕ). with_place (with_row m w row') w (place (passed + 1) made)) (none_made (drop (passed + 1) all)))
               ∙ sym (step_at false (ne_eqb (get_or row 0 0) w other));
         }
@@ -226,10 +214,10 @@ module _ (file : List ℕ) (version tasks w : ℕ) (kept : Arrays) (sound : Step
                 places_size = (stand (moves_on why) own.places_are).0;
                 standing = (stand (moves_on why) own.places_are).1;
               };
-          places_are = own.places_are ∙ ap (places_after why kept.places w) (goes_to_lem true (eq-eqb (get_or row 0 0) w owner));
+          places_are = rw (eq-eqb (get_or row 0 0) w owner) own.places_are;
           machine_is =
               own.machine_is all
-              ∙ ap (λ (to : Place). attempted (outcome m w try_here) m (with_place (change (effect version) (passed + 1) m w try_here) w to))
+              ∙ ap (λ (to : Rules.Place). attempted (outcome m w try_here) m (with_place (change (effect version) (passed + 1) m w try_here) w to))
               (next_there row passed stage index all (drop (passed + 1) all) fits.some_access stands here
               ∙ ap (λ (made : ℕ). moved (task_of row) (place passed made)) (sym made_is))
               ∙ ap (own_step (setting_in file version tasks) m w (task_of row))
@@ -240,7 +228,7 @@ module _ (file : List ℕ) (version tasks w : ℕ) (kept : Arrays) (sound : Step
         all : List Task
         all = tasks_in file tasks
 
-        stage : ℕ
+        stage : Stage
         stage = stage_at kept w
 
         index : ℕ
@@ -249,13 +237,13 @@ module _ (file : List ℕ) (version tasks w : ℕ) (kept : Arrays) (sound : Step
         try_here : Try
         try_here = try_at row stage index
 
-        next : List ℕ
+        next : Place
         next = next_place row passed stage index
 
         made_is : (m.places w).made ≡ made_at (task_of row) stage index
         made_is = ap (λ (left : List Task). made_in left stage index) here
 
-        Stand : List (List ℕ) → Type 0
+        Stand : List Place → Type 0
         Stand to = (length to ≡ most_workers) × Standing file tasks to
 
         stand : (b : Bool) → after.places ≡ cond b (set kept.places w next) kept.places → Stand after.places

@@ -3,10 +3,9 @@
 
 pub mod stepping;
 
-// What became of a step: it advanced, or it was held and why.
-#[derive(Clone, Copy)]
-pub enum Outcome {
-    Advanced,
+// Why a step was held: the worker is past the last task, or the last write or the reads of a cell differ.
+#[derive(Clone, Copy, Debug, PartialEq, Eq)]
+pub enum Held {
     PastLast,
     WriteDiffers(u32),
     ReadsDiffer(u32),

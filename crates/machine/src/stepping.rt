@@ -2,150 +2,113 @@
 ghost use Rattle.std.specs.Prelude.{◌≡◌, [], ◌+◌, ◌<◌, length, get_or};
 ghost use Rattle.layout.specs.Flow.{most_tasks, most_workers, most_cells, most_accesses};
 ghost use Rattle.layout.specs.Row.{access_at};
-ghost use Rattle.steps.specs.Step.{outcome};
 ghost use Rattle.layout.specs.File.{row_start, tasks_in};
-ghost use Rattle.arrays.specs.Arrays.{arrays, machine_of, CountersFit, Changed, try_at, Stands, RowFits, most_reads, ReadsAtMost, Steppable, OwnStep, StepDone};
+ghost use Rattle.steps.specs.Step.{outcome};
+ghost use Rattle.arrays.specs.declared.Stage.TheVariants.{Operate};
+ghost use Rattle.arrays.specs.Ready.{RowFits};
+ghost use Rattle.arrays.specs.Arrays.{lent, machine_of, no_place, CountersFit, Changed, try_at, Stands, most_reads, ReadsAtMost, Steppable, OwnStep, StepDone};
 ghost use Rattle.machine.specs.Outcomes.{outcome_of};
 
-use crate::Outcome;
-use arrays::{AllCounters, Counters, Places};
-use counters::{is_write, note, register};
+use crate::Held;
+use arrays::{Kept, Place, Stage, Tasks};
+use counters::{note, register};
 use effect::operate;
 use places::{next, next_task};
+use rows::{Row, access_at, row_from};
 
-// Whether the own step at a stage and an index is held, and why.
-fn held(
-    row: &[u8],
-    w: usize,
-    stage: u32,
-    index: u32,
-    shared: &Counters,
-    private: &AllCounters,
-) -> Outcome
-    requires row_len { (length row.now ≡ 48) × (w < most_workers) }
-    requires access_there { stage < 2 → (index < most_accesses) × ((access_at row.now index).cell < most_cells) }
-    ensures { outcome_of result ≡ outcome (machine_of [] (arrays [] shared.now «private».now [])) w (try_at row.now stage index) }
+// Whether the own step at a place is held, and why.
+#[tactic(auto, unfolding(steps::specs::Step::outcome, arrays::specs::Arrays::try_at))]
+fn held(row: &Row, w: usize, place: Place, kept: &Kept) -> Result<(), Held>
+    requires worker { w < most_workers }
+    requires access_there { (place.stage ≡ Operate → ⊥) → (place.index < most_accesses) × ((access_at row.now place.index).cell < most_cells) }
+    ensures { outcome_of result ≡ outcome (machine_of [] (lent [] kept.now)) w (try_at row.now place.stage place.index) }
 {
-    if 2 <= stage {
-        return Outcome::Advanced;
-    }
-    let at = octets::offset(index);
-    let cell = octets::index(row[4 + 2 * at]);
-    if stage == 0 {
-        if private[w][cell][0] == shared[cell][0] {
-            return Outcome::Advanced;
+    match place.stage {
+        Stage::WaitWrite => {
+            let number = access_at(row, place.index as usize).cell;
+            let cell = usize::from(number);
+            if kept.private[w][cell].last_write != kept.shared[cell].last_write {
+                return Err(Held::WriteDiffers(u32::from(number)));
+            }
         }
-        return Outcome::WriteDiffers(octets::wide(row[4 + 2 * at]));
+        Stage::WaitReads => {
+            let number = access_at(row, place.index as usize).cell;
+            let cell = usize::from(number);
+            if kept.private[w][cell].reads != kept.shared[cell].reads {
+                return Err(Held::ReadsDiffer(u32::from(number)));
+            }
+        }
+        _ => {}
     }
-    if private[w][cell][1] == shared[cell][1] {
-        return Outcome::Advanced;
-    }
-    Outcome::ReadsDiffer(octets::wide(row[4 + 2 * at]))
+    Ok(())
 }
 
 // What an own step changes but for the place.
-fn change(
-    version: u32,
-    row: &[u8],
-    w: usize,
-    number: u32,
-    stage: u32,
-    index: u32,
-    cells: &mut [u32],
-    shared: &mut Counters,
-    private: &mut AllCounters,
-)
-    requires row_fits { RowFits row.now (length cells.old) × Stands row.now stage index × (w < most_workers) }
-    requires counters_fit { CountersFit shared.old «private».old }
-    ensures { Changed version row.now w number stage index (arrays cells.old shared.old «private».old []) (arrays cells.new shared.new «private».new []) }
+#[tactic(auto, unfolding(arrays::specs::Arrays::Stands))]
+fn change(version: u32, row: &Row, w: usize, place: Place, cells: &mut [u32], kept: &mut Kept)
+    requires row_fits { RowFits row.now (length cells.old) × Stands row.now place.stage place.index × (w < most_workers) × (place.passed < most_tasks) }
+    requires counters_fit { CountersFit kept.old.shared kept.old.«private» }
+    ensures changed { Changed version row.now w (place.passed + 1) place.stage place.index (lent cells.old kept.old) (lent cells.new kept.new) }
+    ensures places { kept.new.places ≡ kept.old.places }
 {
-    if stage < 2 {
-        return;
+    let at = place.index as usize;
+    match place.stage {
+        Stage::WaitWrite | Stage::WaitReads => {}
+        Stage::Operate => operate(version, row, at, cells),
+        Stage::End => {
+            let access = access_at(row, at);
+            let cell = usize::from(access.cell);
+            if access.is_write() {
+                kept.shared[cell].reads = 0;
+            } else {
+                kept.shared[cell].reads += 1;
+                note(&mut kept.private, w, cell, false, place.passed + 1);
+            }
+        }
+        Stage::Post => {
+            let cell = usize::from(access_at(row, at).cell);
+            kept.shared[cell].last_write = place.passed + 1;
+            note(&mut kept.private, w, cell, true, place.passed + 1);
+        }
     }
-    let at = octets::offset(index);
-    if stage == 2 {
-        operate(version, row, at, cells);
-        return;
-    }
-    let cell = octets::index(row[4 + 2 * at]);
-    let last = shared[cell][0];
-    let reads = shared[cell][1];
-    if stage == 4 {
-        shared[cell] = [number, reads];
-        note(private, w, cell, true, number);
-        return;
-    }
-    if is_write(row, at) {
-        shared[cell] = [last, 0];
-        return;
-    }
-    shared[cell] = [last, reads + 1];
-    note(private, w, cell, false, number);
 }
 
 // The owner's next own step.
 fn own_step(
     version: u32,
-    row: &[u8],
+    row: &Row,
     w: usize,
     cells: &mut [u32],
-    shared: &mut Counters,
-    private: &mut AllCounters,
-    places: &mut Places,
-) -> Outcome
-    requires row_fits { RowFits row.now (length cells.old) × (w < most_workers) × (length places.old ≡ most_workers) × (get_or (get_or places.old w []) 0 0 < most_tasks) }
-    requires stands { Stands row.now (get_or (get_or places.old w []) 1 0) (get_or (get_or places.old w []) 2 0) }
-    requires row_found { get_or (get_or places.old w []) 3 0 ≡ row_start (get_or (get_or places.old w []) 0 0 + 1) }
-    requires counters_fit { CountersFit shared.old «private».old }
-    ensures { OwnStep version row.now w (arrays cells.old shared.old «private».old places.old) (outcome_of result) (arrays cells.new shared.new «private».new places.new) }
+    kept: &mut Kept,
+) -> Result<(), Held>
+    requires row_fits { RowFits row.now (length cells.old) × (w < most_workers) × (length kept.old.places ≡ most_workers) × ((get_or kept.old.places w no_place).passed < most_tasks) }
+    requires stands { Stands row.now (get_or kept.old.places w no_place).stage (get_or kept.old.places w no_place).index }
+    requires row_found { (get_or kept.old.places w no_place).row ≡ row_start ((get_or kept.old.places w no_place).passed + 1) }
+    requires counters_fit { CountersFit kept.old.shared kept.old.«private» }
+    ensures { OwnStep version row.now w (lent cells.old kept.old) (outcome_of result) (lent cells.new kept.new) }
 {
-    let passed = places[w][0];
-    let stage = places[w][1];
-    let index = places[w][2];
-    let from = places[w][3];
-    let why = held(row, w, stage, index, shared, private);
-    if let Outcome::Advanced = why {
-        change(
-            version,
-            row,
-            w,
-            passed + 1,
-            stage,
-            index,
-            cells,
-            shared,
-            private,
-        );
-        places[w] = next(row, passed, stage, index, from);
-    }
-    why
+    let place = kept.places[w];
+    held(row, w, place, kept)?;
+    change(version, row, w, place, cells, kept);
+    kept.places[w] = next(row, place);
+    Ok(())
 }
 
 // One step of a named worker.
-pub fn step(
-    file: &[u8],
-    version: u32,
-    tasks: u32,
-    w: usize,
-    cells: &mut [u32],
-    shared: &mut Counters,
-    private: &mut AllCounters,
-    places: &mut Places,
-) -> Outcome
-    requires steppable { Steppable file.now tasks (arrays cells.old shared.old «private».old places.old) × (w < most_workers) }
-    requires reads_at_most { ReadsAtMost most_reads (machine_of (tasks_in file.now tasks) (arrays cells.old shared.old «private».old places.old)) }
-    ensures { StepDone file.now version tasks w (arrays cells.old shared.old «private».old places.old) (outcome_of result) (arrays cells.new shared.new «private».new places.new) }
+pub fn step(tasks: &Tasks, w: usize, cells: &mut [u32], kept: &mut Kept) -> Result<(), Held>
+    requires steppable { Steppable tasks.now.file.now tasks.now.count (lent cells.old kept.old) × (w < most_workers) }
+    requires reads_at_most { ReadsAtMost most_reads (machine_of (tasks_in tasks.now.file.now tasks.now.count) (lent cells.old kept.old)) }
+    ensures { StepDone tasks.now.file.now tasks.now.version tasks.now.count w (lent cells.old kept.old) (outcome_of result) (lent cells.new kept.new) }
 {
-    let passed = places[w][0];
-    if tasks <= passed {
-        return Outcome::PastLast;
+    let place = kept.places[w];
+    if tasks.count <= place.passed {
+        return Err(Held::PastLast);
     }
-    let from = octets::offset(places[w][3]);
-    let row = &file[from..from + 48];
-    if octets::index(row[0]) != w {
-        register(row, w, passed + 1, private);
-        places[w] = next_task(passed);
-        return Outcome::Advanced;
+    let row = row_from(tasks.file, place.row as usize);
+    if usize::from(row[0]) != w {
+        register(row, w, place.passed + 1, &mut kept.private);
+        kept.places[w] = next_task(place.passed);
+        return Ok(());
     }
-    own_step(version, row, w, cells, shared, private, places)
+    own_step(tasks.version, row, w, cells, kept)
 }

@@ -6,7 +6,8 @@ use mathlib.Core.List.{List, [], ◌∷◌, ◌++◌}
 use Prim.Native.Nat.{ℕ, suc, ◌+◌, ◌<◌, ◌≤◌}
 use native.Mathlib.Omega.{arith}
 use borrow.Author.Tests.{eq-eqb, ne_eqb}
-use lib.ListN.{length, get_or, set, replicate}
+use Rattle.std.proofs.lemmas.Bool.Decides.{nat_tests}
+use lib.ListN.{length, get_or, set}
 use lib.Dec.{eqb}
 use Rattle.layout.specs.Lists.{each}
 use Rattle.layout.specs.Flow.{most_workers}
@@ -15,38 +16,30 @@ use Rattle.steps.specs.Step.{Outcome, advanced, past_last, write_differs, reads_
 use Rattle.steps.specs.Held.{reason_of, cell_of, Named, named, held_for, latter, latest_of}
 use Rattle.steps.proofs.Held.{held_more, latest_more, held_within, latter_held}
 use Rattle.arrays.specs.Arrays.{moves_on}
-use Rattle.notes.specs.Noted.{count_at, counted_more, kept_for}
+use Rattle.notes.specs.declared.Notes.{Notes}
+use Rattle.notes.specs.Noted.{counts_of, reasons_of, cells_of, no_notes, count_at, counted_more, kept_for}
 
 -- ---- the counts
 
 -- those of the reasons 1, 2 and 3
-abbrev pub counts_of : List Named → List ℕ
-counts_of steps = each 3 (λ i. held_for (suc i) steps)
+abbrev pub counts_by : List Named → List ℕ
+counts_by steps = each 3 (λ i. held_for (suc i) steps)
 
 module _ (steps : List Named) (w : ℕ) (why : Outcome) where
   -- a reason that the step does not have is counted as before
   not_counted : (reason : ℕ) → (reason ≡ reason_of why → ⊥) → held_for reason steps ≡ held_for reason (steps ++ named w why ∷ [])
-  not_counted reason apart =
-      omega (
-        arith,
-        held_more reason steps (named w why),
-        ap (λ (b : Bool). cond {A = ℕ} b 1 0) (ne_eqb (reason_of why) reason (λ e. apart (sym e))),
-      )
+  not_counted reason apart = let more = held_more reason steps (named w why) in grind (arith, nat_tests)
 
   -- and the one that it has once more
   counted_once : (i : ℕ) → i < 3 → suc i ≡ reason_of why
-      → set (counts_of steps) i (get_or (counts_of steps) i 0 + 1) ≡ counts_of (steps ++ named w why ∷ [])
+      → set (counts_by steps) i (get_or (counts_by steps) i 0 + 1) ≡ counts_by (steps ++ named w why ∷ [])
   counted_once i h e =
-      each_set 3 (λ j. held_for (suc j) steps) (λ j. held_for (suc j) (steps ++ named w why ∷ [])) i _
-      (omega (
-        arith,
-        each_at 3 (λ j. held_for (suc j) steps) i 0 h,
-        held_more (suc i) steps (named w why),
-        ap (λ (b : Bool). cond {A = ℕ} b 1 0) (eq-eqb (reason_of why) (suc i) (sym e)),
-      ))
+      let before = each_at 3 (λ j. held_for (suc j) steps) i 0 h in
+      let more = held_more (suc i) steps (named w why) in
+      each_set 3 (λ j. held_for (suc j) steps) (λ j. held_for (suc j) (steps ++ named w why ∷ [])) i _ (grind (arith, nat_tests))
       (λ j apart. not_counted (suc j) (λ same. apart (omega (arith, same, e))))
 
-counts_more : (steps : List Named) (w : ℕ) (why : Outcome) → counted_more (counts_of steps) why ≡ counts_of (steps ++ named w why ∷ [])
+counts_more : (steps : List Named) (w : ℕ) (why : Outcome) → counted_more (counts_by steps) why ≡ counts_by (steps ++ named w why ∷ [])
 counts_more steps w advanced = each_same 3 _ _ (λ i h. not_counted steps w advanced (suc i) (λ e. omega arith))
 counts_more steps w past_last = counted_once steps w past_last 0 (omega arith) refl
 counts_more steps w (write_differs c) = counted_once steps w (write_differs c) 1 (omega arith) refl
@@ -82,11 +75,7 @@ module _ (number : Outcome → ℕ) (steps : List Named) (w : ℕ) where
   -- an advancing step says nothing
   unchanged : (v : ℕ) → latest_of v steps ≡ latest_of v (steps ++ named w advanced ∷ [])
   unfolding latter
-  unchanged v = sym (latest_more v steps (named w advanced) ∙ ap (latter (latest_of v steps)) (quiet (eqb w v)))
-    where
-      quiet : (t : Bool) → cond t advanced advanced ≡ advanced
-      quiet true = refl
-      quiet false = refl
+  unchanged v = rw (latest_more v steps (named w advanced)) (elim (eqb w v) as (λ own. latest_of v steps ≡ latter (latest_of v steps) (cond own advanced advanced)) [ true ↦ refl | false ↦ refl ])
 
   latest_kept : (why : Outcome) → kept_for (latest_by number steps) w why (number why) ≡ latest_by number (steps ++ named w why ∷ [])
   latest_kept advanced = each_same most_workers _ _ (λ v h. ap number (unchanged v))
@@ -94,55 +83,25 @@ module _ (number : Outcome → ℕ) (steps : List Named) (w : ℕ) where
   latest_kept (write_differs c) = held_kept (write_differs c) refl
   latest_kept (reads_differ c) = held_kept (reads_differ c) refl
 
--- ---- one step noted
-
-module _ (kept : List ℕ) (i : ℕ) (why : Outcome) (number : ℕ) where
-  -- a step with a reason was held, and its number is kept
-  pub some_reason : 0 < reason_of why → (at told : ℕ) → at ≡ i → told ≡ number → set kept at told ≡ kept_for kept i why number
-  some_reason held at told there e = (λ k. set kept (there k) (e k)) ∙ ap (λ (b : Bool). cond b kept (set kept i number)) (stayed why held)
-    where
-      stayed : (o : Outcome) → 0 < reason_of o → false ≡ moves_on o
-      stayed advanced h = absurd (omega arith)
-      stayed past_last h = refl
-      stayed (write_differs c) h = refl
-      stayed (reads_differ c) h = refl
-
-  -- one without advanced, and all stays
-  pub no_reason : reason_of why ≤ 0 → kept ≡ kept_for kept i why number
-  no_reason on = ap (λ (b : Bool). cond b kept (set kept i number)) (moved why on)
-    where
-      moved : (o : Outcome) → reason_of o ≤ 0 → true ≡ moves_on o
-      moved advanced h = refl
-      moved past_last h = absurd (omega arith)
-      moved (write_differs c) h = absurd (omega arith)
-      moved (reads_differ c) h = absurd (omega arith)
-
--- there are three reasons
-pub reason_fits : (why : Outcome) → reason_of why ≤ 3
-reason_fits advanced = omega arith
-reason_fits past_last = omega arith
-reason_fits (write_differs c) = omega arith
-reason_fits (reads_differ c) = omega arith
-
 -- ---- what is kept
 
 -- of these steps
-pub record Noted (steps : List Named) (counts reasons cells : List ℕ) : Type 0 where
-  pub counts_are : counts ≡ counts_of steps
-  pub reasons_are : reasons ≡ latest_by reason_of steps
-  pub cells_are : cells ≡ latest_by cell_of steps
+pub record Noted (steps : List Named) (notes : Notes) : Type 0 where
+  pub counts_are : counts_of notes ≡ counts_by steps
+  pub reasons_are : reasons_of notes ≡ latest_by reason_of steps
+  pub cells_are : cells_of notes ≡ latest_by cell_of steps
 
-pub none_noted : Noted [] (replicate 3 0) (replicate most_workers 0) (replicate most_workers 0)
+pub none_noted : Noted [] no_notes
 unfolding each held_for latest_of
 none_noted = record { counts_are = refl; reasons_are = refl; cells_are = refl }
 
-module _ {steps : List Named} {counts reasons cells : List ℕ} (noted : Noted steps counts reasons cells) where
+module _ {steps : List Named} {notes : Notes} (noted : Noted steps notes) where
   -- one step more
-  pub noted_more : (w : ℕ) (why : Outcome) (counts' reasons' cells' : List ℕ) → counts' ≡ counted_more counts why
-      → reasons' ≡ kept_for reasons w why (reason_of why)
-      → cells' ≡ kept_for cells w why (cell_of why)
-      → Noted (steps ++ named w why ∷ []) counts' reasons' cells'
-  noted_more w why counts' reasons' cells' c r n =
+  pub noted_more : (w : ℕ) (why : Outcome) (after : Notes) → counts_of after ≡ counted_more (counts_of notes) why
+      → reasons_of after ≡ kept_for (reasons_of notes) w why (reason_of why)
+      → cells_of after ≡ kept_for (cells_of notes) w why (cell_of why)
+      → Noted (steps ++ named w why ∷ []) after
+  noted_more w why after c r n =
       record {
         counts_are = c ∙ ap (λ (l : List ℕ). counted_more l why) noted.counts_are ∙ counts_more steps w why;
         reasons_are =
@@ -150,18 +109,15 @@ module _ {steps : List Named} {counts reasons cells : List ℕ} (noted : Noted s
         cells_are = n ∙ ap (λ (l : List ℕ). kept_for l w why (cell_of why)) noted.cells_are ∙ latest_kept cell_of steps w why;
       }
 
-  pub counts_at : (get_or counts 0 0 ≡ held_for 1 steps) × (get_or counts 1 0 ≡ held_for 2 steps) × (get_or counts 2 0 ≡ held_for 3 steps)
+  pub counts_at : (notes.past_last ≡ held_for 1 steps) × (notes.write_differs ≡ held_for 2 steps) × (notes.reads_differ ≡ held_for 3 steps)
   unfolding each
   counts_at =
-      let at : (i : ℕ) → get_or counts i 0 ≡ get_or (counts_of steps) i 0 = λ i. ap (λ (l : List ℕ). get_or l i 0) noted.counts_are in
+      let at : (i : ℕ) → get_or (counts_of notes) i 0 ≡ get_or (counts_by steps) i 0 = λ i. ap (λ (l : List ℕ). get_or l i 0) noted.counts_are in
       (at 0, at 1, at 2)
 
   -- no count is above the steps
-  pub count_fits : (why : Outcome) → count_at counts why ≤ length steps
-  count_fits why = go why (held_within steps)
-    where
-      go : (o : Outcome) → held_for 0 steps + (held_for 1 steps + held_for 2 steps + held_for 3 steps) ≡ length steps → count_at counts o ≤ length steps
-      go advanced e = omega (arith, e, counts_at.0)
-      go past_last e = omega (arith, e, counts_at.0)
-      go (write_differs c) e = omega (arith, e, counts_at.1)
-      go (reads_differ c) e = omega (arith, e, counts_at.2)
+  pub count_fits : (why : Outcome) → count_at (counts_of notes) why ≤ length steps
+  count_fits advanced = let sums = held_within steps in omega (arith, counts_at.0)
+  count_fits past_last = let sums = held_within steps in omega (arith, counts_at.0)
+  count_fits (write_differs c) = let sums = held_within steps in omega (arith, counts_at.1)
+  count_fits (reads_differ c) = let sums = held_within steps in omega (arith, counts_at.2)
