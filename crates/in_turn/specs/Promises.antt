@@ -3,7 +3,7 @@ use Rattle.std.specs.Prelude.{◌≡◌, List, ℕ, length}
 use Rattle.layout.specs.File.{file_answer, flow_of}
 use Rattle.steps.specs.Run as Rules
 use Rattle.steps.specs.Turns.{in_turn}
-use Rattle.run.specs.declared.RunAnswer.{RunAnswer}
+use Rattle.run.specs.Answers.{RunAnswer}
 use Rattle.run.specs.Promises.{RunPromise}
 use Rattle.run.specs.Waiting.{AllMade}
 

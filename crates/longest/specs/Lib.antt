@@ -1,2 +1,3 @@
 -- How long a run of a flow can take.
+pub mod Answers
 pub mod Promises

@@ -8,12 +8,12 @@ use lib.Dec.{eqb}
 use Rattle.layout.specs.File.{file_answer, tasks_of, flow_of}
 use Rattle.layout.proofs.Lists.{each-length}
 use Rattle.steps.specs.Run.{total}
-use Rattle.measure.specs.declared.Measured.{Measured}
+use Rattle.measure.specs.Answers.{MeasureAnswer}
 use Rattle.measure.specs.Promises.{MeasurePromise}
 
-module _ (file : List ℕ) (sizes : Measured) (promised : MeasurePromise file sizes) (taken : sizes.number ≡ 0) where
+module _ (file : List ℕ) (sizes : MeasureAnswer) (promised : MeasurePromise file sizes) (taken : sizes.number ≡ 0) where
   pub accepted : (file_answer file).number ≡ 0
-  accepted = sym (ap (λ (m : Measured). m.number) promised.answer) ∙ taken
+  accepted = sym (ap (λ (m : MeasureAnswer). m.number) promised.answer) ∙ taken
 
   -- a number that is told of an accepted file
   whole : (n : ℕ) → cond (eqb (file_answer file).number 0) n 0 ≡ n
@@ -21,15 +21,15 @@ module _ (file : List ℕ) (sizes : Measured) (promised : MeasurePromise file si
 
   pub tasks_are : sizes.tasks ≡ length (flow_of file).tasks
   unfolding flow_of
-  tasks_are = ap (λ (m : Measured). m.tasks) promised.answer ∙ whole _ ∙ sym (each-length (tasks_of file) _)
+  tasks_are = ap (λ (m : MeasureAnswer). m.tasks) promised.answer ∙ whole _ ∙ sym (each-length (tasks_of file) _)
 
   pub workers_are : sizes.workers ≡ (flow_of file).workers
   unfolding flow_of
-  workers_are = ap (λ (m : Measured). m.workers) promised.answer ∙ whole _
+  workers_are = ap (λ (m : MeasureAnswer). m.workers) promised.answer ∙ whole _
 
   pub cells_are : sizes.cells ≡ (flow_of file).cells
   unfolding flow_of
-  cells_are = ap (λ (m : Measured). m.cells) promised.answer ∙ whole _
+  cells_are = ap (λ (m : MeasureAnswer). m.cells) promised.answer ∙ whole _
 
   pub total_is : sizes.total ≡ total (flow_of file)
-  total_is = ap (λ (m : Measured). m.total) promised.answer ∙ whole _
+  total_is = ap (λ (m : MeasureAnswer). m.total) promised.answer ∙ whole _

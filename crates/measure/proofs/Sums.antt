@@ -8,6 +8,7 @@ use lib.ListN.{drop, get_or, length}
 use Rattle.layout.specs.Flow.{Access, Task}
 use Rattle.layout.specs.Lists.{each}
 use Rattle.layout.specs.Row.{task_of, operation_at}
+use Rattle.layout.specs.File.{row_at, tasks_in}
 use Rattle.layout.proofs.Lists.{each-length}
 use Rattle.layout.proofs.Modes.{each-drop, each-drop-all}
 use Rattle.steps.specs.Step.{writes}
@@ -30,7 +31,7 @@ module _ (n : ℕ) (f : ℕ → Access) where
 
 module _ (workers n : ℕ) (f : ℕ → Task) where
   -- one task more
-  pub task_next : (i sum more whole : ℕ) → i < n
+  task_next : (i sum more whole : ℕ) → i < n
       → more ≡ sum + (access_steps (f i).accesses + length (f i).operations + (workers - 1))
       → whole ≡ sum + total_of workers (drop i (each n f))
       → whole ≡ more + total_of workers (drop (i + 1) (each n f))
@@ -41,12 +42,23 @@ module _ (workers n : ℕ) (f : ℕ → Task) where
   unfolding total_of
   task_end i sum whole h w = omega (arith, ap (total_of workers) (each-drop-all n f i h))
 
--- what a row counts for is what its task does
-pub row_counts : (part row : List ℕ) (steps operations others : ℕ) → part ≡ row → steps ≡ access_steps (task_of part).accesses
+-- a task's row counts for what the task does
+row_counts : (steps operations others : ℕ) (part row : List ℕ) → part ≡ row → steps ≡ access_steps (task_of part).accesses
     → operations ≡ get_or part 2 0
     → steps + operations + others ≡ access_steps (task_of row).accesses + length (task_of row).operations + others
 unfolding task_of
-row_counts part row steps operations others e a o =
+row_counts steps operations others part row e a o =
     ap (λ (n : ℕ). n + operations + others) (a ∙ ap (λ (r : List ℕ). access_steps (task_of r).accesses) e)
     ∙ ap (λ (n : ℕ). access_steps (task_of row).accesses + n + others)
     (o ∙ ap (λ (r : List ℕ). get_or r 2 0) e ∙ sym (each-length (get_or row 2 0) (operation_at row)))
+
+-- with the steps of one task more
+pub row_next : (file row : List ℕ) (workers tasks done sum steps operations : ℕ) → done < tasks → row ≡ row_at file (done + 1)
+    → steps ≡ access_steps (task_of row).accesses
+    → operations ≡ get_or row 2 0
+    → total_of workers (tasks_in file tasks) ≡ sum + total_of workers (drop done (tasks_in file tasks))
+    → total_of workers (tasks_in file tasks)
+    ≡ sum + (steps + operations + (workers - 1)) + total_of workers (drop (done + 1) (tasks_in file tasks))
+row_next file row workers tasks done sum steps operations h e a o =
+    task_next workers tasks (λ i. task_of (row_at file (i + 1))) done sum _ _ h
+    (ap (λ (n : ℕ). sum + n) (row_counts steps operations (workers - 1) row (row_at file (done + 1)) e a o))

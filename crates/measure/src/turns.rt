@@ -6,23 +6,20 @@ ghost use Rattle.steps.specs.Turns.{next_turn, turns};
 fn next_turn(workers: u8, w: u8) -> u8
     ensures { result ≡ next_turn workers w }
 {
-    if w < 255 {
-        if w + 1 < workers {
-            return w + 1;
-        }
+    if (w < 255) && (w + 1 < workers) {
+        w + 1
+    } else {
+        0
     }
-    0
 }
 
 // Fills a schedule with the workers 0, 1, .. in turn.
 pub fn in_turn(workers: u8, schedule: &mut [u8])
     ensures { schedule.new ≡ turns workers (length schedule.old) }
 {
-    let mut w: u8 = 0;
-    let mut i = 0;
-    while i < schedule.len() {
-        schedule[i] = w;
+    let mut w = 0;
+    for byte in schedule {
+        *byte = w;
         w = next_turn(workers, w);
-        i += 1;
     }
 }

@@ -22,8 +22,7 @@ use Rattle.steps.proofs.Accepted.{reads_only_a}
 use Rattle.steps.proofs.Along.{from_append}
 use Rattle.steps.proofs.Given.{accepted_given, given_more, given_accepted}
 use Rattle.steps.proofs.Theorems.{holds, at_any_point, history_leaves, never_early_at}
-use Rattle.run.specs.declared.PlainAnswer.{PlainAnswer}
-use Rattle.run.specs.declared.RunAnswer.{RunAnswer}
+use Rattle.run.specs.Answers.{PlainAnswer, RunAnswer}
 use Rattle.run.specs.Promises.{PlainPromise, RunPromise}
 use Rattle.run.specs.Demand.{flow_in, RunDemand}
 

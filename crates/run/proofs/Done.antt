@@ -1,44 +1,31 @@
 -- The tasks counted one after another, each where its owner, the first byte of its row, has gone past it.
 use mathlib.Core.Path.{◌≡◌, sym, ap, ◌∙◌}
 use mathlib.Core.Bool.{Bool, true, false, cond}
-use mathlib.Core.List.{List, []}
-use Prim.Native.Nat.{ℕ, ◌+◌, ◌-◌, ◌<◌, ◌≤◌}
+use mathlib.Core.List.{List}
+use Prim.Native.Nat.{ℕ, ◌+◌, ◌<◌, ◌≤◌}
 use native.Mathlib.Omega.{arith}
 use borrow.Author.Tests.{lt-ltb, le-ltb}
 use lib.ListN.{get_or, drop}
-use lib.Seq.{get_or-take, get_or-drop}
 use lib.Dec.{ltb}
-use Rattle.layout.specs.Flow.{Task, most_workers}
+use Rattle.layout.specs.Flow.{Task}
 use Rattle.layout.specs.Row.{task_of}
-use Rattle.layout.specs.File.{row_start, row_at, tasks_in}
+use Rattle.layout.specs.File.{row_at, tasks_in}
 use Rattle.layout.proofs.Modes.{each-drop, each-drop-all}
 use Rattle.steps.specs.Machine.{Place}
 use Rattle.steps.specs.Run.{is_done, done_from}
-use Rattle.arrays.specs.Arrays.{place_of, Ready}
+use Rattle.arrays.specs.declared.Place.{Place as Stored}
+use Rattle.arrays.specs.Arrays.{no_place, place_of}
 
--- the owner stands first in the row
-pub owner_read : (file : List ℕ) (tasks cells index from w : ℕ) → Ready file tasks cells → index < tasks → from ≡ row_start (index + 1)
-    → w ≡ get_or file from 0
-    → (w ≡ get_or (row_at file (index + 1)) 0 0) × (w < most_workers)
-owner_read file tasks cells index from w ready h e is =
-    let start : ℕ = row_start (index + 1) in
-    let inside : 0 < start + 48 - start = omega arith in
-    let there : start ≡ start + 0 = omega arith in
-    let same : w ≡ get_or (row_at file (index + 1)) 0 0 =
-    is ∙ ap (λ (k : ℕ). get_or file k 0) (e ∙ there) ∙ sym (get_or-drop start file 0 0)
-    ∙ sym (get_or-take (start + 48 - start) (drop start file) 0 0 inside) in
-    (same, omega (arith, (ready.rows (index + 1) (omega arith) (omega arith)).owner_fits))
-
-module _ (file : List ℕ) (tasks : ℕ) (places : List (List ℕ)) where
+module _ (file : List ℕ) (tasks : ℕ) (places : List Stored) where
   abbrev all : List Task
   all = tasks_in file tasks
 
   -- the place of a worker, by its numbers
   abbrev stands_at : ℕ → Place
-  stands_at w = place_of all (get_or places w [])
+  stands_at w = place_of all (get_or places w no_place)
 
   abbrev passed : ℕ → ℕ
-  passed w = get_or (get_or places w []) 0 0
+  passed w = (get_or places w no_place).passed
 
   -- the tasks done up to an index, with those among the tasks left, are all done tasks
   abbrev pub Counted : ℕ → ℕ → ℕ → Type 0
@@ -55,10 +42,10 @@ module _ (file : List ℕ) (tasks : ℕ) (places : List (List ℕ)) where
         ∙ ap (λ (d : Bool). cond d 1 0 + done_from stands_at (index + 1) (drop (index + 1) all)) t in
         omega arith
 
-    pub one_done : index + 1 ≤ passed w → next ≡ count + 1 → Counted whole (index + 1) next
+    pub one_done : index < passed w → next ≡ count + 1 → Counted whole (index + 1) next
     one_done gone n = counted true (lt-ltb index (passed w) (omega arith)) n
 
-    pub one_left : passed w < index + 1 → next ≡ count → Counted whole (index + 1) next
+    pub one_left : passed w ≤ index → next ≡ count → Counted whole (index + 1) next
     one_left ahead n = counted false (le-ltb index (passed w) (omega arith)) (omega arith)
 
   pub all_counted : (index count whole : ℕ) → tasks ≤ index → Counted whole index count → count ≡ whole

@@ -19,7 +19,7 @@ use Rattle.steps.specs.Held.{reason_of, cell_of, Named, named_by, held_for, late
 use Rattle.steps.specs.Answers.{run_answer, run_told, run_held}
 use Rattle.steps.proofs.Given.{accepted_given}
 use Rattle.steps.proofs.Held.{why_held}
-use Rattle.run.specs.declared.RunAnswer.{RunAnswer}
+use Rattle.run.specs.Answers.{RunAnswer}
 use Rattle.run.specs.Promises.{RunPromise}
 use Rattle.run.specs.Demand.{flow_in}
 use Rattle.run.specs.Held.{Says, NoneHeld, RunHeld}

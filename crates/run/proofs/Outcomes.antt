@@ -1,9 +1,10 @@
 -- What a run answers and leaves follows from the answer that its rules give: with a refusal every count is 0 and no cell changes, and
 -- with success the counts and the cells are those of the run.
-use mathlib.Core.Path.{◌≡◌, sym, ap, subst, ◌∙◌}
+use mathlib.Core.Path.{◌≡◌, sym, ap, ap₂, subst, ◌∙◌}
 use mathlib.Core.Bool.{Bool, true, false, cond}
 use mathlib.Core.List.{List}
 use Prim.Native.Nat.{ℕ, ◌+◌, ◌<◌, ◌≤◌}
+use Rattle.std.proofs.Common.{Ok, Err}
 use native.Mathlib.Nat.{zero-add}
 use native.Mathlib.Omega.{arith}
 use borrow.Author.Tests.{ltb-true, le-leb, lt-leb, eq-eqb, ne_eqb}
@@ -22,33 +23,41 @@ use Rattle.steps.specs.Run.{Run, Names, setting_of, total}
 use Rattle.steps.specs.Held.{Named, named_by}
 use Rattle.steps.specs.Answers.{plain_answer, plain_cells, run_answer, ran, told_of, run_told, held_of, run_held, run_cells}
 use Rattle.steps.proofs.Total.{total_bound}
-use Rattle.file.specs.declared.Answer.{Answer}
-use Rattle.file.specs.declared.CheckAnswer.{CheckAnswer}
-use Rattle.file.specs.Answers.{answer_of}
+use Rattle.refusal.specs.declared.Rule.{Rule}
+use Rattle.refusal.specs.declared.Rule.TheVariants.{Start, Schedule}
+use Rattle.refusal.specs.declared.Refusal.{Refusal}
+use Rattle.refusal.specs.Numbers.{number_of, answer_of}
+use Rattle.refusal.proofs.Unique.{number_positive}
+use Rattle.file.specs.Answers.{CheckAnswer, answer_by as checked_by}
 use Rattle.file.specs.Promises.{CheckPromise}
 use Rattle.file.proofs.Order.{first_given}
 use Rattle.file.proofs.Outcomes.{file_kept, same_answer, accepted, version_held, tasks_held, workers_held, cells_held}
-use Rattle.run.specs.declared.RunAnswer.{RunAnswer}
-use Rattle.run.specs.Promises.{plain_is, run_is, run_refused, PlainPromise, RunPromise, Walked}
+use Rattle.run.specs.Answers.{plain_is, plain_by, RunAnswer, run_is, run_refused, answer_by}
+use Rattle.run.specs.Promises.{PlainPromise, RunPromise, Walked}
+
+-- the number and the place of a refusal by a rule
+as_refused : {rule : Rule} {place : ℕ} (met : Refusal) → met.rule ≡ rule → met.place ≡ place → answer_of met ≡ refusal (number_of rule) place
+as_refused met rule place = ap₂ (λ (r : Rule) (p : ℕ). refusal (number_of r) p) rule place
 
 -- ---- the plain run
 
-pub plain_refused : (file cells : List ℕ) (met : Rules.Answer) → (met.number ≡ 0 → ⊥) → met ≡ plain_answer file cells
-    → PlainPromise file cells (plain_is met) cells
+pub plain_refused : (file cells : List ℕ) (met : Refusal) → answer_of met ≡ plain_answer file cells → PlainPromise file cells (plain_by (Err met)) cells
 unfolding plain_cells
-plain_refused file cells met some e =
+plain_refused file cells met e =
     record {
       answer = ap plain_is e;
       cells_after =
           sym (ap (λ (b : Bool). cond b (after_tasks (effect (flow_of file).version) (flow_of file).tasks cells) cells)
-          (ne_eqb (plain_answer file cells).number 0 (λ none. some (ap (λ (a : Rules.Answer). a.number) e ∙ none))));
+          (ne_eqb (plain_answer file cells).number 0 (λ none. number_positive met.rule (ap (λ (a : Rules.Answer). a.number) e ∙ none))));
     }
 
-module _ {file : List ℕ} {met : CheckAnswer} (promised : CheckPromise file met) (cells : List ℕ) where
-  pub file_refused : (met.number ≡ 0 → ⊥) → refusal met.number met.place ≡ plain_answer file cells
-  unfolding plain_answer
-  file_refused some = first_given (refusal met.number met.place) (file_answer file) _ (same_answer promised) some
+-- a file that is refused is refused by each run
+pub file_refused : (file : List ℕ) (met : Refusal) → CheckPromise file (checked_by (Err met)) → (cells : List ℕ) → answer_of met ≡ plain_answer file cells
+unfolding plain_answer
+file_refused file met promised cells =
+    first_given (answer_of met) (file_answer file) _ (same_answer promised) (number_positive met.rule)
 
+module _ {file : List ℕ} {met : CheckAnswer} (promised : CheckPromise file met) (cells : List ℕ) where
   module _ (none : met.number ≡ 0) where
     -- 12: the cells are as many as the flow's, or not
     counted : (b : Bool) → eqb (length cells) (flow_of file).cells ≡ b → refusal (unless b 12) 0 ≡ plain_answer file cells
@@ -56,14 +65,16 @@ module _ {file : List ℕ} {met : CheckAnswer} (promised : CheckPromise file met
     counted b t =
         sym (second_given (file_answer file) _ (accepted promised none) ∙ ap (λ (kept : Bool). refusal (unless kept 12) 0) t)
 
-    pub cells_refused : (length cells ≡ met.cells → ⊥) → refusal 12 0 ≡ plain_answer file cells
-    cells_refused other = counted false (ne_eqb _ _ (λ e. other (e ∙ sym (cells_held promised none))))
+    pub cells_refused : (refused : Refusal) → refused.rule ≡ Start → refused.place ≡ 0 → (length cells ≡ met.cells → ⊥)
+        → answer_of refused ≡ plain_answer file cells
+    cells_refused refused rule place other =
+        as_refused refused rule place ∙ counted false (ne_eqb _ _ (λ e. other (e ∙ sym (cells_held promised none))))
 
     pub cells_kept : length cells ≡ met.cells → success ≡ plain_answer file cells
     cells_kept e = counted true (eq-eqb _ _ (e ∙ cells_held promised none))
 
     pub plain_done : (after : List ℕ) → length cells ≡ met.cells → after ≡ after_tasks (effect met.version) (tasks_in file met.tasks) cells
-        → PlainPromise file cells (plain_is success) after
+        → PlainPromise file cells (plain_by (Ok tt)) after
     unfolding plain_cells
     plain_done after e is =
         record {
@@ -80,29 +91,27 @@ run_zeros : (met : Rules.Answer) (flow : Flow) (after : Run) (steps : List Named
 unfolding each
 run_zeros met flow after steps some = rw (ne_eqb met.number 0 some)
 
-pub run_refused_lem : (file cells schedule : List ℕ) (met : Rules.Answer) (r : RunAnswer) → (met.number ≡ 0 → ⊥)
-    → met ≡ run_answer file cells schedule
-    → r ≡ run_refused met
-    → RunPromise file cells schedule r cells
+pub run_refused_lem : (file cells schedule : List ℕ) (met : Refusal) → answer_of met ≡ run_answer file cells schedule
+    → RunPromise file cells schedule (answer_by (Err met)) cells
 unfolding run_told run_held run_cells
-run_refused_lem file cells schedule met r some e is =
+run_refused_lem file cells schedule met e =
     let after : Run = ran file cells schedule in
     let steps : List Named = named_by (setting_of (flow_of file)) cells schedule in
     record {
       answer =
-          is ∙ run_zeros met (flow_of file) after steps some
+          run_zeros (answer_of met) (flow_of file) after steps (number_positive met.rule)
           ∙ ap (λ (a : Rules.Answer). run_is (told_of a (flow_of file) after) (held_of a steps)) e;
       cells_after =
-          sym (ap (λ (b : Bool). cond b after.machine.cells cells) (ne_eqb met.number 0 some))
+          sym (ap (λ (b : Bool). cond b after.machine.cells cells) (ne_eqb (number_of met.rule) 0 (number_positive met.rule)))
           ∙ ap (λ (a : Rules.Answer). cond (eqb a.number 0) after.machine.cells cells) e;
-      bounded = omega (arith, ap (λ (a : RunAnswer). a.advanced) is);
+      bounded = omega arith;
     }
 
 -- what refuses the plain run refuses the stepped run
-pub plain_passed_on : (file cells schedule : List ℕ) (met : Rules.Answer) → (met.number ≡ 0 → ⊥) → met ≡ plain_answer file cells
-    → met ≡ run_answer file cells schedule
+pub plain_passed_on : (file cells schedule : List ℕ) (met : Refusal) → answer_of met ≡ plain_answer file cells
+    → answer_of met ≡ run_answer file cells schedule
 unfolding run_answer
-plain_passed_on file cells schedule met some e = first_given met (plain_answer file cells) _ e some
+plain_passed_on file cells schedule met e = first_given (answer_of met) (plain_answer file cells) _ e (number_positive met.rule)
 
 -- 14 at the first byte that names no worker
 abbrev by_bytes : List ℕ → ℕ → Rules.Answer
@@ -121,19 +130,19 @@ module _ {file : List ℕ} {met : CheckAnswer} (promised : CheckPromise file met
       ∙ sym (second_given (plain_answer file cells) (rest (flow_of file).workers)
       (sym (ap (λ (a : Rules.Answer). a.number) (cells_kept promised cells none sized))))
 
-  pub too_long : most_schedule < length schedule → refusal 13 0 ≡ run_answer file cells schedule
-  too_long h = measured false (lt-leb (length schedule) most_schedule h)
+  pub too_long : (refused : Refusal) → refused.rule ≡ Schedule → refused.place ≡ 0 → most_schedule < length schedule
+      → answer_of refused ≡ run_answer file cells schedule
+  too_long refused rule place h = as_refused refused rule place ∙ measured false (lt-leb (length schedule) most_schedule h)
 
-  module _ (short : length schedule ≤ most_schedule) {named : Answer} (found : named ≡ answer_of (by_bytes schedule met.workers)) where
-    pub names_answer : refusal named.number named.place ≡ run_answer file cells schedule
-    names_answer =
-        ap (λ (a : Answer). refusal a.number a.place) found ∙ measured true (le-leb (length schedule) most_schedule short)
+  module _ (short : length schedule ≤ most_schedule) where
+    pub names_answer : (refused : Refusal) → answer_of refused ≡ by_bytes schedule met.workers → answer_of refused ≡ run_answer file cells schedule
+    names_answer refused found = found ∙ measured true (le-leb (length schedule) most_schedule short)
 
-    module _ (all_named : named.number ≡ 0) where
+    module _ (found : success ≡ by_bytes schedule met.workers) where
       each_named : (i : ℕ) → i < length schedule → unless (ltb (get_or schedule (0 + i) 0) met.workers) 14 ≡ 0
       each_named =
           none_at (λ index. unless (ltb (get_or schedule index 0) met.workers) 14) 0 (length schedule)
-          (sym (ap (λ (a : Answer). a.number) found) ∙ all_named)
+          (sym (ap (λ (a : Rules.Answer). a.number) found))
 
       pub names : Names met.workers schedule
       names i h =

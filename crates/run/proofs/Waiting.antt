@@ -24,7 +24,7 @@ use Rattle.steps.proofs.Largest.{steps_fit}
 use Rattle.steps.proofs.Stretches.{stretches_names, one_turn, turn_is, turns_are}
 use Rattle.steps.proofs.Theorems.{holds}
 use Rattle.steps.proofs.Waiting.{waiting_holds, count_grows}
-use Rattle.run.specs.declared.RunAnswer.{RunAnswer}
+use Rattle.run.specs.Answers.{RunAnswer}
 use Rattle.run.specs.Promises.{RunPromise}
 use Rattle.run.specs.Demand.{flow_in}
 use Rattle.run.specs.Waiting.{AllMade, Answers, RunWaiting}

@@ -1,9 +1,10 @@
 -- A run under a schedule, taken byte by byte: the machine that the arrays stand for, run over the bytes left, gives what the whole schedule
 -- gives from the start, since each step of the code is a step of the rules and is counted as they count it.
 use mathlib.Core.Path.{◌≡◌, refl, sym, ap, subst, fun_ext, ◌∙◌}
-use mathlib.Core.Bool.{cond}
+use mathlib.Core.Bool.{Bool, cond}
 use mathlib.Core.List.{List, [], ◌∷◌, ◌++◌, append-nil, append_assoc}
 use Prim.Native.Nat.{ℕ, zero, suc, ◌+◌, ◌-◌, ◌*◌, ◌<◌, ◌≤◌}
+use Rattle.std.proofs.Common.{Ok}
 use native.Mathlib.Numerals.{add-one}
 use native.Mathlib.Omega.{arith}
 use lib.ListN.{length, get_or, drop, replicate, get_or-replicate, drop_of_length-le, length-append}
@@ -20,11 +21,15 @@ use Rattle.steps.specs.Step as Rules
 use Rattle.steps.specs.Run.{Run, counted, run_from, run, Names, done_tasks, finished}
 use Rattle.steps.specs.Held.{reason_of, cell_of, Named, named, named_from, named_by, held_for}
 use Rattle.steps.proofs.Held.{held_more, held_within}
-use Rattle.arrays.specs.Arrays.{counter_of, counter_at, numbers_of, place_of, Arrays, arrays, machine_of, Ready, Placed, most_reads, ReadsAtMost, Steppable, setting_in, StepDone}
+use Rattle.arrays.specs.declared.Counter.{Counter}
+use Rattle.arrays.specs.Ready.{Ready}
+use Rattle.arrays.specs.Arrays.{nothing, counter_of, counter_at, first_place, no_place, place_of, Arrays, arrays, lent, fresh_kept, machine_of, Placed, most_reads, ReadsAtMost, Steppable, setting_in, StepDone}
 use Rattle.arrays.proofs.Places.{none_made, begun}
 use Rattle.arrays.proofs.Growth.{more_reads, file_step_reads}
-use Rattle.notes.specs.Noted.{count_at, counted_more, kept_for}
+use Rattle.notes.specs.declared.Notes.{Notes}
+use Rattle.notes.specs.Noted.{counts_of, reasons_of, cells_of, no_notes, count_at, counted_more, kept_for}
 use Rattle.notes.proofs.Noted.{latest_by, Noted, none_noted, noted_more, count_fits, counts_at}
+use Rattle.run.specs.Answers.{answer_by}
 use Rattle.run.specs.Promises.{Walked}
 
 -- ---- the fresh start
@@ -35,11 +40,8 @@ everywhere f zero i x d e = refl
 everywhere f (suc n) zero x d e = e
 everywhere f (suc n) (suc i) x d e = everywhere f n i x d e
 
-abbrev no_counters : List (List ℕ)
-no_counters = replicate most_cells (replicate 2 0)
-
-abbrev fresh_arrays : List ℕ → Arrays
-fresh_arrays cells = arrays cells no_counters (replicate most_workers no_counters) (replicate most_workers (numbers_of 0 0 0))
+abbrev no_counters : List Counter
+no_counters = replicate most_cells nothing
 
 module _ (file : List ℕ) (version tasks : ℕ) where
   abbrev held_in : List Task
@@ -48,16 +50,16 @@ module _ (file : List ℕ) (version tasks : ℕ) where
   abbrev s : Setting
   s = setting_in file version tasks
 
-  fresh_is : (cells : List ℕ) → machine_of held_in (fresh_arrays cells) ≡ fresh 0 cells
+  fresh_is : (cells : List ℕ) → machine_of held_in (lent cells fresh_kept) ≡ fresh 0 cells
   fresh_is cells = λ i.
       record {
         cells = cells;
-        shared = fun_ext (λ c. everywhere counter_of most_cells c (replicate 2 0) [] refl) i;
+        shared = fun_ext (λ c. everywhere counter_of most_cells c nothing nothing refl) i;
         private =
             fun_ext
             (λ w. fun_ext
-            (λ c. everywhere (λ (row : List (List ℕ)). counter_at row c) most_workers w no_counters [] (everywhere counter_of most_cells c (replicate 2 0) [] refl))) i;
-        places = fun_ext (λ w. everywhere (place_of held_in) most_workers w (numbers_of 0 0 0) [] refl ∙ ap (place 0) (none_made held_in)) i;
+            (λ c. everywhere (λ (row : List Counter). counter_at row c) most_workers w no_counters [] (everywhere counter_of most_cells c nothing nothing refl))) i;
+        places = fun_ext (λ w. everywhere (place_of held_in) most_workers w first_place no_place refl ∙ ap (place 0) (none_made held_in)) i;
       }
 
   -- the run that has made these steps
@@ -70,18 +72,18 @@ module _ (file : List ℕ) (version tasks : ℕ) where
       }
 
   -- where the loop stands: so many bytes are passed, and their steps are noted
-  pub record Walking (start schedule : List ℕ) (passed : ℕ) (kept : Arrays) (counts reasons cells : List ℕ) : Type 0 where
+  pub record Walking (start schedule : List ℕ) (passed : ℕ) (kept : Arrays) (notes : Notes) : Type 0 where
     pub sound : Steppable file tasks kept
     pub reads : ReadsAtMost (most_accesses * passed) (machine_of held_in kept)
     pub steps : List Named
     pub as_many : length steps ≡ passed
-    pub noted : Noted steps counts reasons cells
+    pub noted : Noted steps notes
     pub left : run s start schedule ≡ run_from s (run_of kept steps) (drop passed schedule)
     pub named_left : named_by s start schedule ≡ steps ++ named_from s (machine_of held_in kept) (drop passed schedule)
 
   -- ---- before the first byte
 
-  fresh_sound : (start : List ℕ) → Ready file tasks (length start) → Steppable file tasks (fresh_arrays start)
+  fresh_sound : (start : List ℕ) → Ready file tasks (length start) → Steppable file tasks (lent start fresh_kept)
   fresh_sound start ready =
       record {
         ready = ready;
@@ -91,13 +93,13 @@ module _ (file : List ℕ) (version tasks : ℕ) where
             record {
               placed =
                   λ w l.
-                  subst (Placed file tasks) (sym (get_or-replicate most_workers w (numbers_of 0 0 0) [] l))
+                  subst (Placed file tasks) (sym (get_or-replicate most_workers w first_place no_place l))
                   (begun file tasks 0 (λ task low high. (ready.rows task low high).some_access));
             };
       }
 
   pub walk_begun : (start schedule : List ℕ) → Ready file tasks (length start)
-      → Walking start schedule 0 (fresh_arrays start) (replicate 3 0) (replicate most_workers 0) (replicate most_workers 0)
+      → Walking start schedule 0 (lent start fresh_kept) no_notes
   unfolding held_for
   walk_begun start schedule ready =
       record {
@@ -144,8 +146,8 @@ module _ (file : List ℕ) (version tasks : ℕ) where
     counted_on (Rules.write_differs c) = held_is (Rules.write_differs c) refl refl
     counted_on (Rules.reads_differ c) = held_is (Rules.reads_differ c) refl refl
 
-  module _ {start schedule : List ℕ} {passed : ℕ} {kept : Arrays} {counts reasons cells : List ℕ}
-      (walking : Walking start schedule passed kept counts reasons cells) (within : passed < length schedule) where
+  module _ {start schedule : List ℕ} {passed : ℕ} {kept : Arrays} {notes : Notes}
+      (walking : Walking start schedule passed kept notes) (within : passed < length schedule) where
     -- the step can be taken
     pub step_ready : (workers w : ℕ) → workers ≤ most_workers → length schedule ≤ most_schedule → Names workers schedule
         → w ≡ get_or schedule passed 0
@@ -156,16 +158,16 @@ module _ (file : List ℕ) (version tasks : ℕ) where
     )
 
     -- and noted
-    pub note_ready : (why : Rules.Outcome) → length schedule ≤ most_schedule → count_at counts why < 4294967295
+    pub note_ready : (why : Rules.Outcome) → length schedule ≤ most_schedule → count_at (counts_of notes) why < 4294967295
     note_ready why short = omega (arith, count_fits walking.noted why, walking.as_many)
 
     pub stepped_on : (w : ℕ) → w ≡ get_or schedule passed 0 → (after : Arrays) (why : Rules.Outcome) → StepDone file version tasks w kept why after
-        → {counts' reasons' cells' : List ℕ} → counts' ≡ counted_more counts why
-        → reasons' ≡ kept_for reasons w why (reason_of why)
-        → cells' ≡ kept_for cells w why (cell_of why)
-        → Walking start schedule (passed + 1) after counts' reasons' cells'
+        → (noted : Notes) → counts_of noted ≡ counted_more (counts_of notes) why
+        → reasons_of noted ≡ kept_for (reasons_of notes) w why (reason_of why)
+        → cells_of noted ≡ kept_for (cells_of notes) w why (cell_of why)
+        → Walking start schedule (passed + 1) after noted
     unfolding run_from named_from
-    stepped_on w is after why done {counts'} {reasons'} {cells'} c r n =
+    stepped_on w is after why done noted c r n =
         let before : Run = run_of kept walking.steps in
         let m : Machine = machine_of held_in kept in
         let rest : List ℕ = drop (passed + 1) schedule in
@@ -179,7 +181,7 @@ module _ (file : List ℕ) (version tasks : ℕ) where
               (file_step_reads (most_accesses * passed) file version tasks (length kept.cells) m w walking.sound.ready walking.reads));
           steps = walking.steps ++ named w why ∷ [];
           as_many = omega (arith, walking.as_many, length-append walking.steps (named w why ∷ []));
-          noted = noted_more walking.noted w why counts' reasons' cells' c r n;
+          noted = noted_more walking.noted w why noted c r n;
           left =
               walking.left ∙ ap (run_from s before) bytes
               ∙ ap (λ (d : Stepped). run_from s (counted before d.outcome d.machine) rest) (sym done.machine_is)
@@ -192,10 +194,10 @@ module _ (file : List ℕ) (version tasks : ℕ) where
 
   -- ---- after the last byte
 
-  module _ {start schedule : List ℕ} {passed : ℕ} {kept : Arrays} {counts reasons cells : List ℕ}
-      (walking : Walking start schedule passed kept counts reasons cells) where
+  module _ {start schedule : List ℕ} {passed : ℕ} {kept : Arrays} {notes : Notes}
+      (walking : Walking start schedule passed kept notes) where
     -- the three counts can be added
-    pub counts_add : get_or counts 0 0 + get_or counts 1 0 + get_or counts 2 0 ≤ passed
+    pub counts_add : notes.past_last + notes.write_differs + notes.reads_differ ≤ passed
     counts_add =
         let at = counts_at walking.noted in
         omega (arith, at.0, at.1, at.2, held_within walking.steps, walking.as_many)
@@ -212,27 +214,21 @@ module _ (file : List ℕ) (version tasks : ℕ) where
           ∙ ap (λ (l : List ℕ). walking.steps ++ named_from s (machine_of held_in kept) l) (drop_of_length-le schedule {i = passed} out)
           ∙ append-nil walking.steps)
 
-      pub walk_ended : (workers done over : ℕ) → done ≡ done_tasks held_in (machine_of held_in (arrays [] [] [] kept.places))
-          → over ≡ cond (all (λ w. leb tasks (get_or (get_or kept.places w []) 0 0)) (each workers (λ w. w))) 1 0
+      pub walk_ended : (workers done : ℕ) (over : Bool) → done ≡ done_tasks held_in (machine_of held_in (arrays [] [] [] kept.places))
+          → over ≡ all (λ w. leb tasks (get_or kept.places w no_place).passed) (each workers (λ w. w))
           → Walked version held_in workers start schedule
-          (record {
-            number = 0;
-            place = 0;
-            advanced = length schedule - (get_or counts 0 0 + get_or counts 1 0 + get_or counts 2 0);
-            held = get_or counts 0 0 + get_or counts 1 0 + get_or counts 2 0;
+          (answer_by (Ok record {
+            advanced = length schedule - (notes.past_last + notes.write_differs + notes.reads_differ);
+            held = notes.past_last + notes.write_differs + notes.reads_differ;
             done = done;
             finished = over;
-            past_last = get_or counts 0 0;
-            write_differs = get_or counts 1 0;
-            reads_differ = get_or counts 2 0;
-            reasons = reasons;
-            cells = cells;
-          })
+            notes = notes;
+          }))
           kept.cells
       unfolding finished
       walk_ended workers done over done_is over_is =
           let at = counts_at walking.noted in
-          let others : length schedule - (get_or counts 0 0 + get_or counts 1 0 + get_or counts 2 0) ≡ held_for 0 walking.steps =
+          let others : length schedule - (notes.past_last + notes.write_differs + notes.reads_differ) ≡ held_for 0 walking.steps =
           omega (arith, at.0, at.1, at.2, held_within walking.steps, walking.as_many) in
           record {
             answer = λ i.
@@ -243,8 +239,8 @@ module _ (file : List ℕ) (version tasks : ℕ) where
                   held = ((λ j. at.0 j + at.1 j + at.2 j) ∙ ap (λ (r : Run). r.held) ran) i;
                   done = (done_is ∙ ap (λ (r : Run). done_tasks held_in r.machine) ran) i;
                   finished =
-                      (over_is
-                      ∙ ap (λ (n : ℕ). cond (all (λ w. leb n (get_or (get_or kept.places w []) 0 0)) (each workers (λ w. w))) 1 0)
+                      (ap (λ (b : Bool). cond b 1 0) over_is
+                      ∙ ap (λ (n : ℕ). cond (all (λ w. leb n (get_or kept.places w no_place).passed) (each workers (λ w. w))) 1 0)
                       (sym (each-length tasks (λ i. task_of (row_at file (i + 1)))))
                       ∙ ap (λ (r : Run). cond (finished workers held_in r.machine) 1 0) ran) i;
                   past_last = (at.0 ∙ ap (held_for 1) all_named) i;

@@ -6,7 +6,7 @@ use lib.ListN.{get_or, take}
 use Rattle.steps.specs.Demand.{Given}
 use Rattle.steps.proofs.Given.{given_first}
 use Rattle.steps.proofs.Written.{write_made_lem}
-use Rattle.run.specs.declared.RunAnswer.{RunAnswer}
+use Rattle.run.specs.Answers.{RunAnswer}
 use Rattle.run.specs.Promises.{RunPromise}
 use Rattle.run.specs.Written.{RunWrites}
 use Rattle.run.proofs.Demand.{given, stepped_cells, is_finished}

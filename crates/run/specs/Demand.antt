@@ -9,8 +9,7 @@ use Rattle.steps.specs.History.{after_history}
 use Rattle.steps.specs.Conflict.{names_cell, declares_written}
 use Rattle.steps.specs.Demand.{history, numbered, OnlyDeclared, OnlyTouched, InOrder}
 use Rattle.steps.specs.Auditor.{NeverEarly}
-use Rattle.run.specs.declared.PlainAnswer.{PlainAnswer}
-use Rattle.run.specs.declared.RunAnswer.{RunAnswer}
+use Rattle.run.specs.Answers.{PlainAnswer, RunAnswer}
 use Rattle.run.specs.Promises.{PlainPromise, RunPromise}
 
 -- the flow's tasks under their numbers from 1, with 01's operations

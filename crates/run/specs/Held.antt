@@ -6,7 +6,7 @@ use Rattle.layout.specs.File.{flow_of}
 use Rattle.steps.specs.Step.{Outcome}
 use Rattle.steps.specs.Held.{reason_of, cell_of, Latest}
 use Rattle.steps.specs.Answers.{run_told}
-use Rattle.run.specs.declared.RunAnswer.{RunAnswer}
+use Rattle.run.specs.Answers.{RunAnswer}
 use Rattle.run.specs.Demand.{flow_in}
 
 -- the reason and the cell that are answered for a worker, as numbers

@@ -1,4 +1,5 @@
 -- What the public calls that run a flow promise.
+pub mod Answers
 pub mod Demand
 pub mod Held
 pub mod Promises

@@ -1,52 +1,12 @@
 -- What the plain run and the stepped run promise: the answer, and every lent cell, refusals included.
-use Rattle.std.specs.Prelude.{◌≡◌, cond, List, ℕ, ◌≤◌, replicate}
-use Rattle.layout.specs.Refusal as Rules
+use Rattle.std.specs.Prelude.{◌≡◌, cond, List, ℕ, ◌≤◌}
 use Rattle.layout.specs.Refusal.{success}
-use Rattle.layout.specs.Flow.{Task, most_workers}
+use Rattle.layout.specs.Flow.{Task}
 use Rattle.layout.specs.File.{flow_of}
 use Rattle.steps.specs.Run.{setting_for, run, done_tasks, finished, total}
 use Rattle.steps.specs.Held.{named_by}
-use Rattle.steps.specs.Answers.{Told, plain_answer, plain_cells, run_told, HeldTold, held_of, run_held, run_cells}
-use Rattle.run.specs.declared.PlainAnswer.{PlainAnswer}
-use Rattle.run.specs.declared.RunAnswer.{RunAnswer}
-
--- the plain run answers number and place only
-abbrev pub plain_is : Rules.Answer → PlainAnswer
-plain_is met = record { number = met.number; place = met.place }
-
--- the stepped run's answer, field by field: what 01 tells of a run, and why its steps were held (02, Q-1)
-abbrev pub run_is : Told → HeldTold → RunAnswer
-run_is told why =
-    record {
-      number = told.number;
-      place = told.place;
-      advanced = told.advanced;
-      held = told.held;
-      done = told.done;
-      finished = told.finished;
-      past_last = why.past_last;
-      write_differs = why.write_differs;
-      reads_differ = why.reads_differ;
-      reasons = why.reasons;
-      cells = why.cells;
-    }
-
--- a refusal, with zero counts, not finished, and no held step
-abbrev pub run_refused : Rules.Answer → RunAnswer
-run_refused met =
-    record {
-      number = met.number;
-      place = met.place;
-      advanced = 0;
-      held = 0;
-      done = 0;
-      finished = 0;
-      past_last = 0;
-      write_differs = 0;
-      reads_differ = 0;
-      reasons = replicate most_workers 0;
-      cells = replicate most_workers 0;
-    }
+use Rattle.steps.specs.Answers.{plain_answer, plain_cells, run_told, held_of, run_held, run_cells}
+use Rattle.run.specs.Answers.{PlainAnswer, plain_is, RunAnswer, run_is}
 
 -- the contract of the plain run
 pub record PlainPromise (file cells : List ℕ) (r : PlainAnswer) (after : List ℕ) : Type 0 where

@@ -6,7 +6,7 @@ use Rattle.layout.specs.File.{flow_of}
 use Rattle.steps.specs.Run.{total}
 use Rattle.steps.specs.Turns.{Stretch, Turn, stretches, in_turn}
 use Rattle.steps.specs.Waiting.{Budget}
-use Rattle.run.specs.declared.RunAnswer.{RunAnswer}
+use Rattle.run.specs.Answers.{RunAnswer}
 use Rattle.run.specs.Promises.{RunPromise}
 use Rattle.run.specs.Demand.{flow_in}
 

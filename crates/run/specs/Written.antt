@@ -4,7 +4,7 @@ use Rattle.std.specs.Prelude.{◌≡◌, true, List, ℕ, ◌+◌, ◌≤◌, le
 use Rattle.layout.specs.File.{flow_of}
 use Rattle.steps.specs.Demand.{numbered}
 use Rattle.steps.specs.Written.{write_only, left_by, NoneBetween, WriteMade}
-use Rattle.run.specs.declared.RunAnswer.{RunAnswer}
+use Rattle.run.specs.Answers.{RunAnswer}
 use Rattle.run.specs.Demand.{flow_in}
 
 pub record RunWrites (file cells schedule : List ℕ) (r : RunAnswer) (after : List ℕ) : Type 0 where

@@ -1,113 +1,77 @@
 // The stepped run: the schedule's bytes, one after another, each name a worker that takes a step.
-ghost use Rattle.std.specs.Prelude.{◌≡◌, ◌≤◌, length, get_or, ltb};
+ghost use Rattle.std.specs.Prelude.{◌≡◌, ◌≤◌, length, get_or, ltb, Ok};
 ghost use Rattle.layout.specs.Flow.{most_workers, most_schedule};
 ghost use Rattle.layout.specs.Refusal.{unless, first_at};
-ghost use Rattle.file.specs.Answers.{answer_of};
 ghost use Rattle.layout.specs.File.{tasks_in};
+ghost use Rattle.refusal.specs.Numbers.{met_by};
 ghost use Rattle.steps.specs.Run.{Names};
-ghost use Rattle.arrays.specs.Arrays.{Ready};
+ghost use Rattle.run.specs.Answers.{answer_by};
 ghost use Rattle.run.specs.Promises.{RunPromise, Walked};
 
-use crate::RunAnswer;
+use crate::Ran;
 use crate::telling::{all_past, done_tasks};
-use file::Answer;
+use arrays::{Kept, Tasks};
 use flow::Flow;
 use machine::stepping::step;
-use notes::note;
+use notes::Notes;
+use refusal::{Refusal, Rule, first_refused};
 
 // 14: the first byte of a schedule that is not below workers.
-fn schedule_met(schedule: &[u8], workers: u32) -> Answer
+fn check_schedule(schedule: &[u8], workers: u32) -> Result<(), Refusal>
     requires { length schedule.now ≤ most_schedule }
-    ensures { result ≡ answer_of (first_at (λ index. unless (ltb (get_or schedule.now index 0) workers) 14) 0 (length schedule.now)) }
+    ensures { met_by result ≡ first_at (λ index. unless (ltb (get_or schedule.now index 0) workers) 14) 0 (length schedule.now) }
 {
-    let mut i: u32 = 0;
-    while octets::offset(i) < schedule.len() {
-        if workers <= octets::wide(schedule[octets::offset(i)]) {
-            return Answer {
-                number: 14,
-                place: i,
-            };
+    first_refused(0, schedule.len() as u32, |index| {
+        if workers <= u32::from(schedule[index as usize]) {
+            return Err(Rule::Worker);
         }
-        i += 1;
-    }
-    Answer {
-        number: 0,
-        place: 0,
-    }
+        Ok(())
+    })
 }
 
 // The steps of a schedule, from a fresh start, and what is told of them.
-fn walk(
-    file: &[u8],
-    version: u32,
-    tasks: u32,
-    workers: u32,
-    cells: &mut [u32],
-    schedule: &[u8],
-) -> RunAnswer
-    requires ready { Ready file.now tasks (length cells.old) × (workers ≤ most_workers) × (length schedule.now ≤ most_schedule) }
+fn walk(tasks: &Tasks, workers: u32, cells: &mut [u32], schedule: &[u8]) -> Ran
+    requires ready { (length cells.old ≡ tasks.now.cells) × (workers ≤ most_workers) × (length schedule.now ≤ most_schedule) }
     requires names { Names workers schedule.now }
-    ensures { Walked version (tasks_in file.now tasks) workers cells.old schedule.now result cells.new }
+    ensures { Walked tasks.now.version (tasks_in tasks.now.file.now tasks.now.count) workers cells.old schedule.now (answer_by (Ok result)) cells.new }
 {
-    let mut shared = [[0u32; 2]; Flow::ROOM_FOR_CELLS];
-    let mut private = [[[0u32; 2]; Flow::ROOM_FOR_CELLS]; Flow::ROOM_FOR_WORKERS];
-    let first = [0u32, 0, 0, row::first_byte(1)];
-    let mut places = [first; Flow::ROOM_FOR_WORKERS];
-    let mut counts = [0u32; 3];
-    let mut reasons = [0u32; Flow::ROOM_FOR_WORKERS];
-    let mut waited = [0u32; Flow::ROOM_FOR_WORKERS];
-    let mut i = 0;
-    while i < schedule.len() {
-        let w = octets::index(schedule[i]);
-        let why = step(
-            file,
-            version,
-            tasks,
-            w,
-            cells,
-            &mut shared,
-            &mut private,
-            &mut places,
-        );
-        note(why, w, &mut counts, &mut reasons, &mut waited);
-        i += 1;
+    let mut kept = Kept::fresh();
+    let mut notes = Notes::none();
+    for byte in schedule {
+        let w = usize::from(*byte);
+        let why = step(tasks, w, cells, &mut kept);
+        notes.note(w, why);
     }
-    let held = counts[0] + counts[1] + counts[2];
+    let held = notes.past_last + notes.write_differs + notes.reads_differ;
     let advanced = schedule.len() as u32 - held;
-    let done = done_tasks(file, tasks, cells.len(), &places);
-    let finished = all_past(workers, tasks, &places);
-    RunAnswer {
-        number: 0,
-        place: 0,
+    let done = done_tasks(tasks, &kept.places);
+    let finished = all_past(workers, tasks.count, &kept.places);
+    Ran {
         advanced,
         held,
         done,
         finished,
-        past_last: counts[0],
-        write_differs: counts[1],
-        reads_differ: counts[2],
-        reasons,
-        cells: waited,
+        notes,
     }
 }
 
-// Runs a flow under a schedule from lent cells: 0 with the counts and the cells after the last byte, or a refusal that changes none.
-pub fn run(file: &[u8], cells: &mut [u32], schedule: &[u8]) -> RunAnswer
-    ensures { RunPromise file.now cells.old schedule.now result cells.new }
+// Runs a flow under a schedule from lent cells, which are then as after the last byte; a refusal changes none.
+pub fn run(file: &[u8], cells: &mut [u32], schedule: &[u8]) -> Result<Ran, Refusal>
+    ensures { RunPromise file.now cells.old schedule.now (answer_by result) cells.new }
 {
-    let met = file::check(file);
-    if met.number != 0 {
-        return RunAnswer::refused(met.number, met.place);
-    }
-    if cells.len() != octets::offset(met.cells) {
-        return RunAnswer::refused(12, 0);
+    let flow = file::check(file)?;
+    if cells.len() != flow.cells as usize {
+        return Err(Rule::Start.at(0));
     }
     if Flow::MAX_SCHEDULE < schedule.len() {
-        return RunAnswer::refused(13, 0);
+        return Err(Rule::Schedule.at(0));
     }
-    let named = schedule_met(schedule, met.workers);
-    if named.number != 0 {
-        return RunAnswer::refused(named.number, named.place);
-    }
-    walk(file, met.version, met.tasks, met.workers, cells, schedule)
+    check_schedule(schedule, flow.workers)?;
+    let tasks = Tasks {
+        file,
+        version: flow.version,
+        count: flow.tasks,
+        cells: flow.cells,
+    };
+    Ok(walk(&tasks, flow.workers, cells, schedule))
 }

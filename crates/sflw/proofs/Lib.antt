@@ -1,3 +1,3 @@
--- That the words of an answer are the core call's.
-pub mod Words
+-- The words of a stepped run, and that each contract for C allows one outcome only.
 pub mod Unique
+pub mod Workers

@@ -1,20 +1,15 @@
 -- What each call for C promises: the number that is returned and the words of the answer are the core call's answer, field by field in the order
 -- of include/sflw.h, and the other lent memory is as the core call leaves it. The answer itself is written on a refusal too.
 use Rattle.std.specs.Prelude.{◌≡◌, List, [], ◌∷◌, ℕ, get_or}
-use Rattle.reader.specs.declared.ReadAnswer.{ReadAnswer}
-use Rattle.reader.specs.Answers.{read_is, rows_after}
-use Rattle.writer.specs.declared.WriteAnswer.{WriteAnswer}
-use Rattle.writer.specs.Answers.{write_is, out_after}
+use Rattle.reader.specs.Answers.{ReadAnswer, read_is, rows_after}
+use Rattle.writer.specs.Answers.{WriteAnswer, write_is, out_after}
 use Rattle.steps.specs.Answers.{plain_answer, plain_cells, run_told, run_held, run_cells}
-use Rattle.run.specs.declared.PlainAnswer.{PlainAnswer}
-use Rattle.run.specs.declared.RunAnswer.{RunAnswer}
-use Rattle.run.specs.Promises.{plain_is, run_is}
-use Rattle.measure.specs.declared.Measured.{Measured}
-use Rattle.measure.specs.Promises.{measured_of}
+use Rattle.run.specs.Answers.{PlainAnswer, plain_is, RunAnswer, run_is}
+use Rattle.measure.specs.Answers.{MeasureAnswer, measured_of}
 
 -- ---- the words of each answer
 
-abbrev pub check_words : Measured → List ℕ
+abbrev pub check_words : MeasureAnswer → List ℕ
 check_words met = met.number ∷ met.place ∷ met.tasks ∷ met.workers ∷ met.cells ∷ met.total ∷ met.version ∷ []
 
 abbrev pub read_words : ReadAnswer → List ℕ
