@@ -1,22 +1,17 @@
 // Fletcher's sums: 01's own cases, the published vectors, and more bytes than the library sums before it reduces.
-use crate::say;
+use std::io;
 
-fn short() {
-    say::sums(b"no bytes", fletcher::sums_of(b""));
-    say::sums(b"the byte 255", fletcher::sums_of(b"\xff"));
-    say::sums(b"abcde", fletcher::sums_of(b"abcde"));
-    say::sums(b"abcdef", fletcher::sums_of(b"abcdef"));
-    say::sums(b"abcdefgh", fletcher::sums_of(b"abcdefgh"));
+fn sums(rt: &impl Print, name: &str, bytes: &[u8]) -> io::Result<()> {
+    let sums = fletcher::sums_of(bytes);
+    println!(rt; "sums of {name}: A {} B {}", sums.a, sums.b)
 }
 
-fn long() {
-    let ones = [1u8; 5000];
-    say::sums(b"5000 ones", fletcher::sums_of(&ones));
-    let large = [254u8; 4097];
-    say::sums(b"4097 times 254", fletcher::sums_of(&large));
-}
-
-pub(crate) fn run() {
-    short();
-    long();
+pub(crate) fn run(rt: &impl Print) -> io::Result<()> {
+    sums(rt, "no bytes", b"")?;
+    sums(rt, "the byte 255", b"\xff")?;
+    sums(rt, "abcde", b"abcde")?;
+    sums(rt, "abcdef", b"abcdef")?;
+    sums(rt, "abcdefgh", b"abcdefgh")?;
+    sums(rt, "5000 ones", &[1; 5000])?;
+    sums(rt, "4097 times 254", &[254; 4097])
 }

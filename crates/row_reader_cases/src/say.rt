@@ -1,53 +1,42 @@
-// The lines: the number of the call or of the task, and what was answered.
-use file::Answer;
-use row_reader::Found;
+// The lines: the number of the call or of the task, and what was answered. What cannot be written is left out.
+use crate::Found;
+use rows::Row;
 
-const STANDARD_OUTPUT: i32 = 1;
-
-pub(crate) fn text(words: &[u8]) {
-    io::write_all(STANDARD_OUTPUT, words);
-}
-
-// A number after a space.
-pub(crate) fn spaced(n: u32) {
-    text(b" ");
-    io::print_decimal(STANDARD_OUTPUT, n as u64);
-}
-
-// What the number that follows counts, and a colon.
-pub(crate) fn numbered(kind: &[u8], number: u64) {
-    text(kind);
-    text(b" ");
-    io::print_decimal(STANDARD_OUTPUT, number);
-    text(b":");
+// Kept: beside `task` and `in_order`: a line each, and only the words differ, which are what a format is.
+pub(crate) fn heading(rt: &impl Print, words: &str) {
+    let _ = println!(rt; "{words}");
 }
 
 // The call's number, which counts from 1.
-pub(crate) fn called(before: u32) {
-    numbered(b"call", before as u64 + 1);
+pub(crate) fn called(rt: &impl Print, before: u32) {
+    let call = u64::from(before) + 1;
+    let _ = print!(rt; "call {call}:");
 }
 
-fn row(bytes: &[u8]) {
-    text(b" row");
-    let mut i = 0;
-    while i < bytes.len() {
-        spaced(octets::wide(bytes[i]));
-        i += 1;
+pub(crate) fn task(rt: &impl Print, task: u32) {
+    let _ = print!(rt; "task {task}:");
+}
+
+fn row(rt: &impl Print, row: &Row) {
+    let _ = print!(rt; " row");
+    for byte in row {
+        let _ = print!(rt; " {byte}");
     }
+    let _ = println!(rt);
 }
 
-fn refused(met: Answer) {
-    text(b" refused");
-    spaced(met.number);
-    text(b" place");
-    spaced(met.place);
-}
-
-pub(crate) fn answer(found: Found, bytes: &[u8]) {
+pub(crate) fn answer(rt: &impl Print, found: Found) {
     match found {
-        Found::Row => row(bytes),
-        Found::End => text(b" end"),
-        Found::Refused(met) => refused(met),
+        Ok(Some(bytes)) => row(rt, &bytes),
+        Ok(None) => {
+            let _ = println!(rt; " end");
+        }
+        Err(met) => {
+            let _ = println!(rt; " {met}");
+        }
     }
-    text(b"\n");
+}
+
+pub(crate) fn in_order(rt: &impl Print, rows: u32) {
+    let _ = println!(rt; "rows in order: {rows}");
 }

@@ -1,52 +1,43 @@
-// The lines: a case's name, the number and the place answered, the counts of a stepped run with the latest held step of workers 0 and 1, and
+// The parts of a line: a case's name, the number and the place answered, the counts of a stepped run with the latest held step of workers 0
+// and 1, and the cells.
+use notes::reason_and_cell;
+use refusal::Refusal;
+use run::Ran;
+use std::io;
 
-const STANDARD_OUTPUT: i32 = 1;
-// the cells.
-
-fn decimal(n: u32) {
-    io::print_decimal(STANDARD_OUTPUT, n as u64);
+// The number and the place of a refusal, or 0 and 0.
+pub(crate) fn answered(rt: &impl Print, name: &str, met: Option<Refusal>) -> io::Result<()> {
+    let (number, place) = match met {
+        Some(refusal) => (refusal.rule.number(), refusal.place),
+        None => (0, 0),
+    };
+    print!(rt; "{name}: {number} place {place}")
 }
 
-// A number after its name.
-fn named(name: &[u8], n: u32) {
-    io::write_all(STANDARD_OUTPUT, name);
-    decimal(n);
-}
-
-pub(crate) fn answered(name: &[u8], number: u32, place: u32) {
-    io::write_all(STANDARD_OUTPUT, name);
-    named(b": ", number);
-    named(b" place ", place);
-}
-
-pub(crate) fn counts(advanced: u32, held: u32, done: u32, finished: u32) {
-    named(b" advanced ", advanced);
-    named(b" held ", held);
-    named(b" done ", done);
-    named(b" finished ", finished);
-}
-
-// Of the held steps, how many for each reason.
-pub(crate) fn reasons(past_last: u32, write_differs: u32, reads_differ: u32) {
-    named(b" past last ", past_last);
-    named(b" write differs ", write_differs);
-    named(b" reads differ ", reads_differ);
-}
-
-// The reason and the cell of a worker's latest held step.
-pub(crate) fn latest(worker: u32, reason: u32, cell: u32) {
-    named(b" worker ", worker);
-    named(b" reason ", reason);
-    named(b" cell ", cell);
+// What came of a stepped run.
+pub(crate) fn ran(rt: &impl Print, ran: &Ran) -> io::Result<()> {
+    let finished = u32::from(ran.finished);
+    let notes = &ran.notes;
+    print!(rt;
+        " advanced {} held {} done {} finished {finished}",
+        ran.advanced, ran.held, ran.done
+    )?;
+    print!(rt;
+        " past last {} write differs {} reads differ {}",
+        notes.past_last, notes.write_differs, notes.reads_differ
+    )?;
+    for (worker, held) in notes.latest[..2].iter().enumerate() {
+        let [reason, cell] = reason_and_cell(*held);
+        print!(rt; " worker {worker} reason {reason} cell {cell}")?;
+    }
+    Ok(())
 }
 
 // The cells, and the end of the line.
-pub(crate) fn cells(values: &[u32]) {
-    io::write_all(STANDARD_OUTPUT, b" cells");
-    let mut i = 0;
-    while i < values.len() {
-        named(b" ", values[i]);
-        i += 1;
+pub(crate) fn cells(rt: &impl Print, values: &[u32]) -> io::Result<()> {
+    print!(rt; " cells")?;
+    for value in values {
+        print!(rt; " {value}")?;
     }
-    io::write_all(STANDARD_OUTPUT, b"\n");
+    println!(rt)
 }

@@ -2,31 +2,33 @@
 #![tactic(auto)]
 
 use flow::Flow;
+use measure::Measured;
+use std::io;
 
-const STANDARD_INPUT: i32 = 0;
-
-const STANDARD_OUTPUT: i32 = 1;
-
-// A word and a number after it.
-fn pair(word: &[u8], n: u32) {
-    io::write_all(STANDARD_OUTPUT, word);
-    io::print_decimal(STANDARD_OUTPUT, n as u64);
+fn told(rt: &impl Print, measured: &Measured) -> io::Result<()> {
+    let Flow {
+        version,
+        tasks,
+        workers,
+        cells,
+    } = measured.flow;
+    println!(rt;
+        "version {version} tasks {tasks} workers {workers} cells {cells} total {}",
+        measured.total
+    )
 }
 
-fn main() {
+fn run(rt: &(impl Input + Print)) -> io::Result<()> {
     // One byte more than the longest file, so that a longer input is refused for its length.
-    let mut input = [0u8; Flow::MAX_BYTES + 1];
-    let n = io::read_full(STANDARD_INPUT, &mut input);
-    let told = measure::measure(&input[..n]);
-    if told.number != 0 {
-        pair(b"refused ", told.number);
-        pair(b" place ", told.place);
-    } else {
-        pair(b"version ", told.version);
-        pair(b" tasks ", told.tasks);
-        pair(b" workers ", told.workers);
-        pair(b" cells ", told.cells);
-        pair(b" total ", told.total);
+    let mut input = [0; Flow::MAX_BYTES + 1];
+    let count = console::read_up_to(&mut rt.reader(), &mut input);
+    match measure::measure(&input[..count]) {
+        Err(refusal) => println!(rt; "{refusal}"),
+        Ok(measured) => told(rt, &measured),
     }
-    io::write_all(STANDARD_OUTPUT, b"\n");
+}
+
+fn main(rt: HostRuntime) {
+    // A failed write ends the program, silently and with status 0.
+    let _ = run(&rt);
 }

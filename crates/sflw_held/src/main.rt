@@ -1,40 +1,53 @@
 // Why workers were held: a flow from standard input, run as the run program does it, and what is told of its held steps.
 #![tactic(auto)]
 
-mod say;
+use full_run::FullRun;
+use machine::Held;
+use notes::Notes;
+use std::{fmt, io};
 
-ghost use Rattle.std.specs.Prelude.{◌≡◌, ◌*◌, ◌≤◌, length};
-ghost use Rattle.layout.specs.Flow.{most_workers, most_cells};
-ghost use Rattle.steps.specs.Run.{largest_total};
-ghost use Rattle.measure.specs.Promises.{MeasurePromise};
+// A worker's latest held step, if it had one.
+#[derive(Clone, Copy)]
+struct Latest(Option<Held>);
 
-use flow::Flow;
-use measure::Measured;
-
-const STANDARD_INPUT: i32 = 0;
-
-// Runs a flow of these sizes, and writes why its workers were held.
-fn run_and_tell(file: &[u8], sizes: Measured, cells: &mut [u32], room: &mut [u8])
-    requires measured { MeasurePromise file.now sizes × (sizes.number ≡ 0) }
-    requires room_enough { (most_cells ≤ length cells.old) × (most_workers * largest_total ≤ length room.old) }
-{
-    let count = octets::offset(sizes.cells);
-    let told = in_turn::run(file, sizes.workers, sizes.total, &mut cells[..count], room);
-    say::counts(told.past_last, told.write_differs, told.reads_differ);
-    say::workers(sizes.workers, told);
+impl fmt::Display for Latest {
+    fn fmt<W: fmt::Write>(&self, f: &mut fmt::Formatter<W>) -> fmt::Result {
+        match self.0 {
+            None => write!(f, "never held"),
+            Some(Held::PastLast) => write!(f, "past the last task"),
+            Some(Held::WriteDiffers(cell)) => write!(f, "last write of cell {cell}"),
+            Some(Held::ReadsDiffer(cell)) => write!(f, "reads of cell {cell}"),
+        }
+    }
 }
 
-fn main() {
-    // One byte more than the longest file, so that a longer input is refused for its length.
-    let mut input = [0u8; Flow::MAX_BYTES + 1];
-    let n = io::read_full(STANDARD_INPUT, &mut input);
-    let file = &input[..n];
-    let sizes = measure::measure(file);
-    if sizes.number != 0 {
-        say::refused(sizes.number, sizes.place);
-        return;
+// The three counts, which add up to the steps held.
+fn counts(rt: &impl Print, notes: &Notes) -> io::Result<()> {
+    println!(rt; "past the last task {}", notes.past_last)?;
+    println!(rt; "last write differs {}", notes.write_differs)?;
+    println!(rt; "reads differ {}", notes.reads_differ)
+}
+
+// A line for each worker.
+fn workers(rt: &impl Print, latest: &[Option<Held>]) -> io::Result<()> {
+    for (worker, held) in latest.iter().enumerate() {
+        println!(rt; "worker {worker}: {}", Latest(*held))?;
     }
-    let mut cells = [0u32; Flow::ROOM_FOR_CELLS];
-    let mut room = io::large_buffer();
-    run_and_tell(file, sizes, &mut cells, &mut room);
+    Ok(())
+}
+
+fn run(rt: &(impl Input + Print)) -> io::Result<()> {
+    match FullRun::of_input(rt) {
+        Err(refusal) => println!(rt; "{refusal}"),
+        Ok(run) => {
+            let notes = run.ran.notes;
+            counts(rt, &notes)?;
+            workers(rt, &notes.latest[..run.measured.flow.workers as usize])
+        }
+    }
+}
+
+fn main(rt: HostRuntime) {
+    // A failed write ends the program, silently and with status 0.
+    let _ = run(&rt);
 }

@@ -2,35 +2,28 @@
 #![tactic(auto)]
 
 use flow::Flow;
+use longest::Longest;
+use std::io;
 
-const STANDARD_INPUT: i32 = 0;
-
-const STANDARD_OUTPUT: i32 = 1;
-
-// A word and a number after it, as a whole line.
-fn line(word: &[u8], n: u32) {
-    io::write_all(STANDARD_OUTPUT, word);
-    io::print_decimal(STANDARD_OUTPUT, n as u64);
-    io::write_all(STANDARD_OUTPUT, b"\n");
+fn told(rt: &impl Print, longest: &Longest) -> io::Result<()> {
+    println!(rt; "total {}", longest.total)?;
+    println!(rt; "stretches at most {}", longest.stretches)?;
+    println!(rt; "steps at most {}", longest.steps)?;
+    println!(rt; "held at most {}", longest.held)
 }
 
-fn refused(number: u32, place: u32) {
-    io::write_all(STANDARD_OUTPUT, b"refused ");
-    io::print_decimal(STANDARD_OUTPUT, number as u64);
-    line(b" place ", place);
-}
-
-fn main() {
+// Kept: reads and answers as the check's program does: what the two share, `console` has, and the rest is one match.
+fn run(rt: &(impl Input + Print)) -> io::Result<()> {
     // One byte more than the longest file, so that a longer input is refused for its length.
-    let mut input = [0u8; Flow::MAX_BYTES + 1];
-    let n = io::read_full(STANDARD_INPUT, &mut input);
-    let told = longest::worst_case(&input[..n]);
-    if told.number != 0 {
-        refused(told.number, told.place);
-        return;
+    let mut input = [0; Flow::MAX_BYTES + 1];
+    let count = console::read_up_to(&mut rt.reader(), &mut input);
+    match longest::worst_case(&input[..count]) {
+        Err(refusal) => println!(rt; "{refusal}"),
+        Ok(longest) => told(rt, &longest),
     }
-    line(b"total ", told.total);
-    line(b"stretches at most ", told.stretches);
-    line(b"steps at most ", told.steps);
-    line(b"held at most ", told.held);
+}
+
+fn main(rt: HostRuntime) {
+    // A failed write ends the program, silently and with status 0.
+    let _ = run(&rt);
 }

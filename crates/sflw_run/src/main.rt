@@ -1,41 +1,50 @@
 // The run program: a flow from standard input, all cells at 0, the workers named in turn, the total times over.
 #![tactic(auto)]
 
-mod say;
-
-ghost use Rattle.std.specs.Prelude.{◌≡◌, ◌*◌, ◌≤◌, length};
-ghost use Rattle.layout.specs.Flow.{most_workers, most_cells};
-ghost use Rattle.steps.specs.Run.{largest_total};
-ghost use Rattle.measure.specs.Promises.{MeasurePromise};
+ghost use Rattle.std.specs.Prelude.{◌≡◌};
 
 use flow::Flow;
-use measure::Measured;
+use full_run::FullRun;
+use run::Ran;
+use std::io;
 
-const STANDARD_INPUT: i32 = 0;
-
-// Runs a flow of these sizes with the workers in turn, and writes what came of it. It has finished, whatever the flow.
-fn run_and_tell(file: &[u8], sizes: Measured, cells: &mut [u32], room: &mut [u8])
-    requires measured { MeasurePromise file.now sizes × (sizes.number ≡ 0) }
-    requires room_enough { (most_cells ≤ length cells.old) × (most_workers * largest_total ≤ length room.old) }
-{
-    let count = octets::offset(sizes.cells);
-    let told = in_turn::run(file, sizes.workers, sizes.total, &mut cells[..count], room);
-    say::sizes(sizes.tasks, sizes.workers, sizes.cells);
-    say::told(told.finished, told.advanced, told.held, told.done);
-    say::cells(&cells[..count]);
+fn sizes(rt: &impl Print, flow: &Flow) -> io::Result<()> {
+    println!(rt;
+        "tasks {} workers {} cells {}",
+        flow.tasks, flow.workers, flow.cells
+    )
 }
 
-fn main() {
-    // One byte more than the longest file, so that a longer input is refused for its length.
-    let mut input = [0u8; Flow::MAX_BYTES + 1];
-    let n = io::read_full(STANDARD_INPUT, &mut input);
-    let file = &input[..n];
-    let sizes = measure::measure(file);
-    if sizes.number != 0 {
-        say::refused(sizes.number, sizes.place);
-        return;
+// The line begins `finished 1`: nothing else may be told.
+fn told(rt: &impl Print, finished: u32, ran: &Ran) -> io::Result<()>
+    requires { finished ≡ 1 }
+{
+    println!(rt;
+        "finished {finished} advanced {} held {} done {}",
+        ran.advanced, ran.held, ran.done
+    )
+}
+
+// A line for each cell with its number and value.
+fn cells(rt: &impl Print, values: &[u32]) -> io::Result<()> {
+    for (index, value) in values.iter().enumerate() {
+        println!(rt; "{index} {value}")?;
     }
-    let mut cells = [0u32; Flow::ROOM_FOR_CELLS];
-    let mut room = io::large_buffer();
-    run_and_tell(file, sizes, &mut cells, &mut room);
+    Ok(())
+}
+
+fn run(rt: &(impl Input + Print)) -> io::Result<()> {
+    match FullRun::of_input(rt) {
+        Err(refusal) => println!(rt; "{refusal}"),
+        Ok(run) => {
+            sizes(rt, &run.measured.flow)?;
+            told(rt, u32::from(run.ran.finished), &run.ran)?;
+            cells(rt, run.cells())
+        }
+    }
+}
+
+fn main(rt: HostRuntime) {
+    // A failed write ends the program, silently and with status 0.
+    let _ = run(&rt);
 }

@@ -1,92 +1,87 @@
 // The head of a case: which call it is, how many bytes follow, and what is answered.
 ghost use Rattle.std.specs.Prelude.{◌≤◌};
 
+use crate::call::Call;
+use crate::stream::Unusable;
 use crate::{numbers, stream};
+use std::io::Read;
 
 // The most bytes that a case may have of one kind, and of a schedule: as much as test/cases.h has room for.
 pub(crate) const ROOM: usize = 16384;
 
 pub(crate) const ROOM_SCHEDULE: usize = 70000;
 
-// The words of the longest answer, and the bytes of a head: eight numbers and those words.
+// The words of the longest answer.
 pub(crate) const WORDS: usize = 25;
 
-const SIZE: usize = 132;
-
 // The largest number that a call answers.
-pub(crate) const MOST: usize = 22;
+pub(crate) const MOST: u32 = 22;
 
 #[derive(Clone, Copy)]
 pub(crate) struct Head {
-    // Whether the data had a whole head.
-    pub(crate) whole: bool,
-    // 1 check, 2 read, 3 write, 4 plain, 5 run.
-    pub(crate) call: u32,
+    pub(crate) call: Call,
+    // The writer's; 0 for the other calls.
     pub(crate) version: u32,
     pub(crate) workers: u32,
     pub(crate) cells: u32,
+    // So many bytes are the input, are lent for writing, are the schedule, and are stored of the schedule.
     pub(crate) input: usize,
     pub(crate) lent: usize,
     pub(crate) schedule: usize,
     pub(crate) stored: usize,
     pub(crate) answer: [u32; WORDS],
+    ghost input_fits: { input ≤ 16384 },
+    ghost lent_fits: { lent ≤ 16384 },
+    ghost schedule_fits: { schedule ≤ 70000 },
+    ghost stored_fits: { stored ≤ schedule },
 }
 
-fn words(bytes: &[u8; SIZE]) -> [u32; WORDS] {
-    let all = &bytes[..];
-    let mut words = [0u32; WORDS];
-    numbers::take_all(&all[32..132], &mut words);
-    words
+// So many numbers from the data.
+fn next_numbers<const N: usize>(data: &mut impl Read) -> Result<[u32; N], Unusable> {
+    let mut bytes = [[0u8; 4]; N];
+    stream::fill(data, bytes.as_flattened_mut())?;
+    let mut all = [0u32; N];
+    numbers::take(&bytes, &mut all);
+    Ok(all)
 }
 
-fn size(bytes: &[u8; SIZE], at: usize) -> usize
-    requires { at ≤ 48 }
-{
-    octets::offset(numbers::number(bytes, at))
+// Whether the lent bytes are whole cells, where they are cells: at most 256.
+fn has_cells(call: Call, lent: usize) -> bool {
+    match call {
+        Call::Plain | Call::Run => lent % 4 == 0 && lent <= 1024,
+        _ => true,
+    }
 }
 
 impl Head {
-    fn of(bytes: &[u8; SIZE], whole: bool) -> Head {
-        let answer = words(bytes);
-        Head {
-            whole: whole,
-            call: numbers::number(bytes, 0),
-            version: numbers::number(bytes, 4),
-            workers: numbers::number(bytes, 8),
-            cells: numbers::number(bytes, 12),
-            input: size(bytes, 16),
-            lent: size(bytes, 20),
-            schedule: size(bytes, 24),
-            stored: size(bytes, 28),
-            answer: answer,
+    // The head that is next in the data, if it can be the head of a case.
+    pub(crate) fn next(data: &mut impl Read) -> Result<Head, Unusable> {
+        let numbers = next_numbers::<8>(data)?;
+        let [call, version, workers, cells, input, lent, schedule, stored] = numbers;
+        let answer = next_numbers::<WORDS>(data)?;
+        let call = Call::try_from(call)?;
+        let (input, lent) = (input as usize, lent as usize);
+        let (schedule, stored) = (schedule as usize, stored as usize);
+        if input > ROOM || lent > ROOM || schedule > ROOM_SCHEDULE {
+            return Err(Unusable::Damaged);
         }
-    }
-
-    // The head that is next in the data.
-    pub(crate) fn next() -> Head {
-        let mut space = [0u8; SIZE];
-        let whole = stream::take(&mut space, SIZE).len() == SIZE;
-        Head::of(&space, whole)
-    }
-
-    fn has_room(self) -> bool {
-        (self.input <= ROOM) & (self.lent <= ROOM) & (self.schedule <= ROOM_SCHEDULE)
-    }
-
-    // Whether the stored bytes are some of the schedule's, and none only where it has none.
-    fn has_schedule(self) -> bool {
-        (self.stored <= self.schedule) & ((self.stored != 0) | (self.schedule == 0))
-    }
-
-    // Whether the lent bytes are whole cells, where they are cells: at most 256.
-    fn has_cells(self) -> bool {
-        (self.call < 4) | ((self.lent % 4 == 0) & (self.lent <= 1024))
-    }
-
-    // Whether it can be the head of a case.
-    pub(crate) fn is_sound(self) -> bool {
-        let first = self.answer[0];
-        let known = (1 <= self.call) & (self.call <= 5) & (octets::offset(first) <= MOST);
-        known & self.has_room() & self.has_schedule() & self.has_cells()
+        // The stored bytes are some of the schedule's, and none only where it has none.
+        if stored > schedule || (stored == 0 && schedule != 0) {
+            return Err(Unusable::Damaged);
+        }
+        if answer[0] > MOST || !has_cells(call, lent) {
+            return Err(Unusable::Damaged);
+        }
+        Ok(Head {
+            call,
+            version,
+            workers,
+            cells,
+            input,
+            lent,
+            schedule,
+            stored,
+            answer,
+        })
     }
 }

@@ -2,67 +2,52 @@
 // differed. The file stdin has the cases; test/vectors.c writes it, and says at its head how a case is laid out.
 #![tactic(auto)]
 
+mod call;
 mod calls;
 mod case;
 mod head;
 mod numbers;
-mod say;
 mod stream;
 mod tally;
 
-use case::Outcome;
-use head::Head;
+use std::io;
+use std::io::Read;
 use tally::Tally;
 
-// What is said of a case that did not hold; whether the cases end with it.
-fn ends(index: u32, call: u32, outcome: Outcome) -> bool {
-    match outcome {
-        Outcome::Held => false,
-        Outcome::Differed => {
-            say::differs(index, call);
-            false
-        }
-        Outcome::Damaged => {
-            say::unusable(index, b"is damaged");
-            true
-        }
-        Outcome::CutOff => {
-            say::unusable(index, b"is cut off");
-            true
-        }
-    }
-}
-
 // What is said of all cases, where the data ends with the last.
-fn finish(tally: Tally) {
-    if stream::is_at_end() {
-        tally.say();
+fn finish(rt: &impl Print, data: &mut impl Read, tally: &Tally) -> io::Result<()> {
+    if stream::is_at_end(data) {
+        tally.say(rt)
     } else {
-        say::line(b"there is data after the last case");
+        println!(rt; "there is data after the last case")
     }
 }
 
-fn each_case(count: u32) {
+fn each_case(rt: &impl Print, data: &mut impl Read, count: u32) -> io::Result<()> {
     let mut tally = Tally::new();
-    let mut index = 0;
-    while index < count {
-        let head = Head::next();
-        let outcome = case::run(head);
-        if ends(index, head.call, outcome) {
-            return;
+    for index in 0..count {
+        let outcome = match case::run(data) {
+            Ok(outcome) => outcome,
+            Err(unusable) => return println!(rt; "case {index} {unusable}"),
+        };
+        if !outcome.held {
+            println!(rt; "case {index} {} differs", outcome.call)?;
         }
-        tally = tally.with(head, outcome);
-        index += 1;
+        tally.add(outcome);
     }
-    finish(tally);
+    finish(rt, data, &tally)
 }
 
-fn main() {
-    let mut space = [0u8; 4];
-    let bytes = stream::take(&mut space, 4);
-    if bytes.len() < 4 {
-        say::line(b"there are no cases");
-        return;
+fn run(rt: &(impl Input + Print)) -> io::Result<()> {
+    let mut data = rt.reader();
+    let mut count = [0u8; 4];
+    match stream::fill(&mut data, &mut count) {
+        Ok(()) => each_case(rt, &mut data, u32::from_le_bytes(count)),
+        Err(_) => println!(rt; "there are no cases"),
     }
-    each_case(numbers::number(bytes, 0));
+}
+
+fn main(rt: HostRuntime) {
+    // A failed write ends the program, silently and with status 0.
+    let _ = run(&rt);
 }

@@ -1,44 +1,51 @@
 // The data, as it comes from standard input.
 ghost use Rattle.std.specs.Prelude.{◌≤◌, length};
 
-const STANDARD_INPUT: i32 = 0;
+use std::fmt;
+use std::io::Read;
 
-fn least(a: usize, b: usize) -> usize
-    ensures { (result ≤ a) × (result ≤ b) }
-{
-    if a < b { a } else { b }
+// Why the data has no further case.
+#[derive(Clone, Copy)]
+pub(crate) enum Unusable {
+    // The head can be no case's.
+    Damaged,
+    // The data ends before the case does.
+    CutOff,
 }
 
-// Reads so many bytes into the room, and answers them: fewer where the data or the room ends.
-pub(crate) fn take(room: &mut [u8], size: usize) -> &mut [u8] {
-    let most = least(size, room.len());
-    let got = io::read_full(STANDARD_INPUT, &mut room[0..most]);
-    &mut room[0..got]
-}
-
-pub(crate) fn is_at_end() -> bool {
-    let mut room = [0u8; 1];
-    take(&mut room, 1).len() == 0
-}
-
-// Reads so many bytes, which come over and over again up to a length; none where the data ends.
-pub(crate) fn take_repeated(room: &mut [u8], stored: usize, length: usize) -> &mut [u8] {
-    let got = take(room, stored).len();
-    if got < stored {
-        return &mut room[0..0];
+impl fmt::Display for Unusable {
+    fn fmt<W: fmt::Write>(&self, f: &mut fmt::Formatter<W>) -> fmt::Result {
+        f.write_str(match self {
+            Unusable::Damaged => "is damaged",
+            Unusable::CutOff => "is cut off",
+        })
     }
-    let end = least(length, room.len());
-    repeat(room, stored, end);
-    &mut room[0..end]
 }
 
-// What stands in the first bytes, over and over again.
-fn repeat(room: &mut [u8], first: usize, end: usize)
-    requires { end ≤ length room.old }
-{
-    let mut i = first;
-    while i < end {
-        room[i] = room[i - first];
-        i += 1;
+// Fills the bytes from the data.
+pub(crate) fn fill(data: &mut impl Read, bytes: &mut [u8]) -> Result<(), Unusable> {
+    if console::read_up_to(data, bytes) < bytes.len() {
+        return Err(Unusable::CutOff);
     }
+    Ok(())
+}
+
+// Fills the first bytes from the data, and the others with what stands in these, over and over again.
+pub(crate) fn fill_repeated(
+    data: &mut impl Read,
+    bytes: &mut [u8],
+    stored: usize,
+) -> Result<(), Unusable>
+    requires { stored ≤ length bytes.old }
+{
+    let (first, others) = bytes.split_at_mut(stored);
+    fill(data, first)?;
+    for (byte, given) in others.iter_mut().zip(first.iter().cycle()) {
+        *byte = *given;
+    }
+    Ok(())
+}
+
+pub(crate) fn is_at_end(data: &mut impl Read) -> bool {
+    console::read_up_to(data, &mut [0; 1]) == 0
 }

@@ -1,69 +1,67 @@
 // How many cases of each call there were, how often each number was answered, and how many cases held.
+use crate::call::Call;
 use crate::case::Outcome;
-use crate::head::Head;
-use crate::{head, say};
+use crate::head;
+use std::io;
 
-// A count for each number up to the largest.
-pub(crate) const NUMBERS: usize = head::MOST + 1;
-
-#[derive(Clone, Copy)]
+#[derive(Drop)]
 pub(crate) struct Tally {
     // By the call's number; none has 0.
     calls: [u32; 6],
-    numbers: [u32; NUMBERS],
+    // A count for each number up to the largest.
+    numbers: [u32; head::MOST as usize + 1],
     held: u32,
     differed: u32,
 }
 
-fn one_more(n: u32) -> u32 {
-    std::num::wrapping_add_u32(n, 1)
+fn count(counter: &mut u32) {
+    *counter = counter.wrapping_add(1);
 }
 
 impl Tally {
     pub(crate) fn new() -> Tally {
         Tally {
             calls: [0; 6],
-            numbers: [0; NUMBERS],
+            numbers: [0; head::MOST as usize + 1],
             held: 0,
             differed: 0,
         }
     }
 
-    fn with_call(mut self, call: usize) -> Tally {
-        if call < 6 {
-            self.calls[call] = one_more(self.calls[call]);
+    // One case more.
+    pub(crate) fn add(&mut self, outcome: Outcome) {
+        count(&mut self.calls[outcome.call as usize]);
+        if let Some(met) = self.numbers.get_mut(outcome.number as usize) {
+            count(met);
         }
-        self
-    }
-
-    fn with_number(mut self, number: usize) -> Tally {
-        if number < NUMBERS {
-            self.numbers[number] = one_more(self.numbers[number]);
+        if outcome.held {
+            count(&mut self.held);
+        } else {
+            count(&mut self.differed);
         }
-        self
     }
 
-    fn with_outcome(mut self, outcome: Outcome) -> Tally {
-        match outcome {
-            Outcome::Held => self.held = one_more(self.held),
-            _ => self.differed = one_more(self.differed),
+    // A line for each call with how many cases there were of it.
+    fn say_calls(&self, rt: &impl Print) -> io::Result<()> {
+        for call in Call::ALL {
+            println!(rt; "{call} {}", self.calls[call as usize])?;
         }
-        self
+        Ok(())
     }
 
-    // One case more, with the number that is stored for it.
-    pub(crate) fn with(self, head: Head, outcome: Outcome) -> Tally {
-        let number = head.answer[0];
-        self.with_call(octets::offset(head.call))
-            .with_number(octets::offset(number))
-            .with_outcome(outcome)
+    // A line for each number that was answered, with how often.
+    fn say_numbers(&self, rt: &impl Print) -> io::Result<()> {
+        for (number, met) in self.numbers.iter().enumerate() {
+            if *met != 0 {
+                println!(rt; "number {number} met {met}")?;
+            }
+        }
+        Ok(())
     }
 
-    pub(crate) fn say(self) {
-        let calls = self.calls;
-        let numbers = self.numbers;
-        say::calls(&calls);
-        say::numbers(&numbers);
-        say::outcomes(self.held, self.differed);
+    pub(crate) fn say(&self, rt: &impl Print) -> io::Result<()> {
+        self.say_calls(rt)?;
+        self.say_numbers(rt)?;
+        println!(rt; "held {} differed {}", self.held, self.differed)
     }
 }

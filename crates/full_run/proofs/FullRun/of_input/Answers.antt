@@ -1,0 +1,5 @@
+-- The file is what was read.
+use Rattle.full_run.proofs.FullRun.of_input.Goals as goal
+
+pub returns : goal.returns
+returns g c = (_, c.of.ensures.measured)
