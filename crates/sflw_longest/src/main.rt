@@ -12,7 +12,7 @@ fn told(rt: &impl Print, longest: &Longest) -> io::Result<()> {
     println!(rt; "held at most {}", longest.held)
 }
 
-// Kept: reads and answers as the check's program does: what the two share, `console` has, and the rest is one match.
+// Kept: a flow is read as the programs of the check and of the run read it: `console` has what they share, and the rest is one match.
 fn run(rt: &(impl Input + Print)) -> io::Result<()> {
     // One byte more than the longest file, so that a longer input is refused for its length.
     let mut input = [0; Flow::MAX_BYTES + 1];
