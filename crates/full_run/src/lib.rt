@@ -44,7 +44,7 @@ impl FullRun {
 
     // The run of the flow on standard input, whatever comes from there.
     pub fn of_input(rt: &impl Input) -> Result<FullRun, Refusal>
-        ensures { (file : List ℕ) × MatchResult result (λ run. MeasurePromise file (measured_by (Ok run.measured))) (λ met. MeasurePromise file (measured_by (Err met))) }
+        ensures { (file : List ℕ) × MatchResult result (λ run. MeasurePromise file (measured_by (Ok run.measured))) (λ met. MeasurePromise file (measured_by (Err met))) × IfOk result (λ run. InTurnPromise file (replicate run.measured.flow.cells 0) (ran_by (Ok run.ran)) (take run.measured.flow.cells run.room)) }
     {
         // One byte more than the longest file, so that a longer input is refused for its length.
         let mut input = [0; Flow::MAX_BYTES + 1];
