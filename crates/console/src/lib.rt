@@ -1,10 +1,73 @@
-// What the programs share: reading standard input into an array.
+// What the programs share: standard input, which is read into an array, and standard output.
 #![tactic(auto)]
 
-ghost use Rattle.std.specs.Prelude.{◌≡◌, ◌≤◌, length, take};
+ghost use Rattle.std.specs.Prelude.{◌≡◌, ◌≤◌, true, false, IfOk, IsOk, length, take};
+ghost use Rattle.std.specs.Io.{ReadsAtMost};
 ghost use Rattle.std.specs.Io.KnownBytes.{Consumes};
 
+use std::fmt;
 use std::io::Read;
+
+const STANDARD_INPUT: i32 = 0;
+
+const STANDARD_OUTPUT: i32 = 1;
+
+// Standard input. A read fills what it is lent, as far as the input goes, and a read of the system that fails is taken for the end.
+#[derive(Clone, Copy)]
+pub struct StandardInput {
+    // Whether the last read met the end after some bytes. The next one tells it, and asks the system for nothing.
+    at_end: bool,
+}
+
+impl StandardInput {
+    pub fn new() -> StandardInput
+        ensures { result.at_end ≡ false }
+    {
+        StandardInput { at_end: false }
+    }
+}
+
+impl Read for StandardInput {
+    fn read(&mut self, buf: &mut [u8]) -> std::io::Result<usize>
+        ensures bound { ReadsAtMost result buf.new }
+        ensures never_fails { IsOk result }
+        ensures end_told { self.old.at_end ≡ true → IfOk result (λ n. n ≡ 0) × (self.new.at_end ≡ false) }
+    {
+        if self.at_end {
+            self.at_end = false;
+            return Ok(0);
+        }
+        let came = io::read_full(STANDARD_INPUT, buf);
+        self.at_end = 0 < came && came < buf.len();
+        Ok(came)
+    }
+}
+
+// Standard output. Each piece of a format, a text between two values or a value, is a write of its own, and one that fails is passed
+// over: the next piece is tried all the same.
+#[derive(Clone, Copy)]
+pub struct StandardOutput;
+
+impl fmt::Write for StandardOutput {
+    fn write_str(&mut self, s: &str) -> fmt::Result
+        ensures { IsOk result }
+    {
+        self.write_bytes(s.as_bytes());
+        Ok(())
+    }
+}
+
+impl StandardOutput {
+    // Bytes that need not be text, as one piece.
+    pub fn write_bytes(&mut self, bytes: &[u8]) {
+        io::write_all(STANDARD_OUTPUT, bytes);
+    }
+
+    // What `write!` and `writeln!` call. There is no error to look at.
+    pub fn write_fmt<D: fmt::Display + Drop>(&mut self, text: D) {
+        let _ = fmt::Write::write_fmt(self, text);
+    }
+}
 
 // Reads until the array is full, the input ends or a read fails, and returns how many bytes came: the first ones of the array.
 pub fn read_up_to<R: Read>(reader: &mut R, input: &mut [u8]) -> usize
