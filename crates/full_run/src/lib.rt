@@ -1,7 +1,8 @@
-// The run that the programs make of the flow on standard input: all cells at 0, and the workers named in turn, the total times over.
+// The run that the programs make of the flow on their input: all cells at 0, and the workers named in turn, the total times over.
 #![tactic(auto)]
 
 ghost use Rattle.std.specs.Prelude.{◌≡◌, true, List, ℕ, take, replicate, Ok, Err, IfOk, MatchResult};
+ghost use Rattle.std.specs.Io.KnownBytes.{Consumes};
 ghost use Rattle.measure.specs.Answers.{answer_by as measured_by};
 ghost use Rattle.measure.specs.Promises.{MeasurePromise};
 ghost use Rattle.run.specs.Answers.{answer_by as ran_by};
@@ -11,6 +12,7 @@ use flow::Flow;
 use measure::Measured;
 use refusal::Refusal;
 use run::Ran;
+use std::io::Read;
 
 // The steps of the longest run: the most workers, the largest total times over.
 const MOST_STEPS: usize = 8 * 5800;
@@ -20,7 +22,7 @@ const MOST_STEPS: usize = 8 * 5800;
 pub struct FullRun {
     pub measured: Measured,
     pub ran: Ran,
-    pub room: [u32; Flow::ROOM_FOR_CELLS],
+    room: [u32; Flow::ROOM_FOR_CELLS],
     ghost finished: { ran.finished ≡ true },
 }
 
@@ -42,13 +44,13 @@ impl FullRun {
         })
     }
 
-    // The run of the flow on standard input, whatever comes from there.
-    pub fn of_input(rt: &impl Input) -> Result<FullRun, Refusal>
-        ensures { (file : List ℕ) × MatchResult result (λ run. MeasurePromise file (measured_by (Ok run.measured))) (λ met. MeasurePromise file (measured_by (Err met))) × IfOk result (λ run. InTurnPromise file (replicate run.measured.flow.cells 0) (ran_by (Ok run.ran)) (take run.measured.flow.cells run.room)) }
+    // The run of the flow that a reader gives, whatever comes from there.
+    pub fn of_input<R: Read>(reader: &mut R) -> Result<FullRun, Refusal>
+        ensures { (file : List ℕ) × Consumes (R.remaining reader.old) (R.remaining reader.new) file × MatchResult result (λ run. MeasurePromise file (measured_by (Ok run.measured))) (λ met. MeasurePromise file (measured_by (Err met))) × IfOk result (λ run. InTurnPromise file (replicate run.measured.flow.cells 0) (ran_by (Ok run.ran)) (take run.measured.flow.cells run.room)) }
     {
         // One byte more than the longest file, so that a longer input is refused for its length.
         let mut input = [0; Flow::MAX_BYTES + 1];
-        let count = console::read_up_to(&mut rt.reader(), &mut input);
+        let count = console::read_up_to(reader, &mut input);
         FullRun::of(&input[..count])
     }
 

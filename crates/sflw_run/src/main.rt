@@ -3,48 +3,45 @@
 
 ghost use Rattle.std.specs.Prelude.{◌≡◌};
 
+use console::{StandardInput, StandardOutput};
 use flow::Flow;
 use full_run::FullRun;
 use run::Ran;
-use std::io;
 
-fn sizes(rt: &impl Print, flow: &Flow) -> io::Result<()> {
-    println!(rt;
+fn sizes(out: &mut StandardOutput, flow: &Flow) {
+    writeln!(
+        out,
         "tasks {} workers {} cells {}",
         flow.tasks, flow.workers, flow.cells
-    )
+    );
 }
 
 // The line begins `finished 1`: nothing else may be told.
-fn told(rt: &impl Print, finished: u32, ran: &Ran) -> io::Result<()>
+fn told(out: &mut StandardOutput, finished: u32, ran: &Ran)
     requires { finished ≡ 1 }
 {
-    println!(rt;
+    writeln!(
+        out,
         "finished {finished} advanced {} held {} done {}",
         ran.advanced, ran.held, ran.done
-    )
+    );
 }
 
 // A line for each cell with its number and value.
-fn cells(rt: &impl Print, values: &[u32]) -> io::Result<()> {
+fn cells(out: &mut StandardOutput, values: &[u32]) {
     for (index, value) in values.iter().enumerate() {
-        println!(rt; "{index} {value}")?;
+        writeln!(out, "{index} {value}");
     }
-    Ok(())
 }
 
-fn run(rt: &(impl Input + Print)) -> io::Result<()> {
-    match FullRun::of_input(rt) {
-        Err(refusal) => println!(rt; "{refusal}"),
+fn main() {
+    let mut out = StandardOutput;
+    match FullRun::of_input(&mut StandardInput::new()) {
+        Err(refusal) => writeln!(out, "{refusal}"),
         Ok(run) => {
-            sizes(rt, &run.measured.flow)?;
-            told(rt, u32::from(run.ran.finished), &run.ran)?;
-            cells(rt, run.cells())
+            sizes(&mut out, &run.measured.flow);
+            told(&mut out, u32::from(run.ran.finished), &run.ran);
+            cells(&mut out, run.cells());
         }
     }
-}
-
-fn main(rt: HostRuntime) {
-    // A failed write ends the program, silently and with status 0.
-    let _ = run(&rt);
 }

@@ -2,4 +2,4 @@
 use Rattle.full_run.proofs.FullRun.of_input.Goals as goal
 
 pub returns : goal.returns
-returns g c = (_, c.of.ensures.measured, c.of.ensures.ran)
+returns g c = (_, c.read_up_to-count.ensures.bytes, c.of.ensures.measured, c.of.ensures.ran)
