@@ -3,8 +3,8 @@
 use crate::flows::ROWS;
 use crate::say;
 use crate::word::Word;
+use console::StandardOutput;
 use flow::Flow;
-use std::io;
 
 const MARK: u8 = 170;
 
@@ -35,9 +35,9 @@ pub(crate) struct Case {
 }
 
 // Says whether the bytes from one place up to, not including, another are marked still.
-fn rest(rt: &impl Print, bytes: &[u8], from: usize, to: usize) -> io::Result<()> {
+fn rest(out: &mut StandardOutput, bytes: &[u8], from: usize, to: usize) {
     let is_same = bytes.iter().take(to).skip(from).all(|byte| *byte == MARK);
-    say::same(rt, "rest", is_same)
+    say::same(out, "rest", is_same);
 }
 
 // Changes a byte, where there is one.
@@ -97,7 +97,7 @@ impl Case {
         }
     }
 
-    fn write(&mut self, rt: &impl Print) -> io::Result<()> {
+    fn write(&mut self, out: &mut StandardOutput) {
         let size = self.size.min(ROWS);
         let room = self.into.min(FILE);
         let rows = &self.rows[..size];
@@ -105,56 +105,56 @@ impl Case {
         let lent = &mut file[..room];
         match writer::write(rows, self.version, self.workers, self.cells, lent) {
             Ok(bytes) => {
-                print!(rt; " 0 place 0 bytes {bytes}")?;
-                rest(rt, file, bytes as usize, room + PAST)
+                say::filled(out, bytes);
+                rest(out, file, bytes as usize, room + PAST);
             }
             Err(refusal) => {
-                say::refused(rt, refusal)?;
-                rest(rt, file, 0, room + PAST)
+                say::refused(out, refusal);
+                rest(out, file, 0, room + PAST);
             }
         }
     }
 
-    fn check(&self, rt: &impl Print) -> io::Result<()> {
+    fn check(&self, out: &mut StandardOutput) {
         let size = self.length.min(FILE);
         match file::check(&self.file[..size]) {
             Ok(flow) => {
-                print!(rt; " 0 place 0")?;
-                say::sizes(rt, flow)
+                say::accepted(out);
+                say::sizes(out, flow);
             }
-            Err(refusal) => say::refused(rt, refusal),
+            Err(refusal) => say::refused(out, refusal),
         }
     }
 
-    fn read(&self, rt: &impl Print) -> io::Result<()> {
+    fn read(&self, out: &mut StandardOutput) {
         let size = self.length.min(FILE);
         let mut lent = [MARK; LENT];
         let room = self.into.min(LENT);
         match reader::read(&self.file[..size], &mut lent[..room]) {
             Ok(flow) => {
-                let bytes = 48 * flow.tasks as usize;
-                print!(rt; " 0 place 0 bytes {bytes}")?;
-                say::sizes(rt, flow)?;
-                say::same(rt, "rows", lent[..bytes] == self.rows[..bytes])?;
-                rest(rt, &lent, bytes, room + PAST)
+                let size = 48 * flow.tasks;
+                let bytes = size as usize;
+                say::filled(out, size);
+                say::sizes(out, flow);
+                say::same(out, "rows", lent[..bytes] == self.rows[..bytes]);
+                rest(out, &lent, bytes, room + PAST);
             }
             Err(refusal) => {
-                say::refused(rt, refusal)?;
-                rest(rt, &lent, 0, room + PAST)
+                say::refused(out, refusal);
+                rest(out, &lent, 0, room + PAST);
             }
         }
     }
 
     // Writes bytes 0-15 and 496-511 of the file.
-    fn ends(&self, rt: &impl Print) -> io::Result<()> {
+    fn ends(&self, out: &mut StandardOutput) {
         for byte in self.file[..16].iter().chain(&self.file[496..512]) {
-            print!(rt; " {byte}")?;
+            write!(out, " {byte}");
         }
-        Ok(())
     }
 
     // Does what a word says.
-    pub(crate) fn apply(&mut self, rt: &impl Print, word: Word) -> io::Result<()> {
+    pub(crate) fn apply(&mut self, out: &mut StandardOutput, word: Word) {
         match word {
             Word::Nothing => {}
             Word::Rows(size) => self.size = size,
@@ -166,12 +166,11 @@ impl Case {
             Word::Byte(at, byte) => self.put(at, byte),
             Word::File => self.make(),
             Word::Seal => self.seal(),
-            Word::Write => self.write(rt)?,
-            Word::Check => self.check(rt)?,
-            Word::Read => self.read(rt)?,
-            Word::Ends => self.ends(rt)?,
-            Word::Unknown => print!(rt; " unknown word")?,
+            Word::Write => self.write(out),
+            Word::Check => self.check(out),
+            Word::Read => self.read(out),
+            Word::Ends => self.ends(out),
+            Word::Unknown => write!(out, " unknown word"),
         }
-        Ok(())
     }
 }

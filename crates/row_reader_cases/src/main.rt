@@ -5,6 +5,7 @@
 mod flows;
 mod say;
 
+use console::StandardOutput;
 use flow::Flow;
 use refusal::Refusal;
 use row_reader::Rows;
@@ -15,86 +16,88 @@ type Found = Result<Option<Row>, Refusal>;
 
 // What a call answers, after so many others. As long as each gives the next row of the largest flow, the first `silent` calls are
 // counted; every other answer is written.
-fn tell(rt: &impl Print, in_order: u32, call: u32, silent: u32, found: Found) -> u32 {
+fn tell(out: &mut StandardOutput, in_order: u32, call: u32, silent: u32, found: Found) -> u32 {
     if call < silent && in_order == call && found == Ok(Some(flows::row_of(call + 1))) {
         return call + 1;
     }
-    say::called(rt, call);
-    say::answer(rt, found);
+    // The call's number counts from 1.
+    say::numbered(out, "call", u64::from(call) + 1);
+    say::answer(out, found);
     in_order
 }
 
 // One reader, asked so many times: how many of the first `silent` calls gave the rows of the largest flow in their order.
-fn read_through(rt: &impl Print, file: &[u8], calls: u32, silent: u32) -> u32 {
+fn read_through(out: &mut StandardOutput, file: &[u8], calls: u32, silent: u32) -> u32 {
     let mut rows = Rows::new(file);
     let mut in_order = 0;
     for call in 0..calls {
-        in_order = tell(rt, in_order, call, silent, rows.next().transpose());
+        in_order = tell(out, in_order, call, silent, rows.next().transpose());
     }
     in_order
 }
 
 // A row by its number.
-fn by_number(rt: &impl Print, file: &[u8], task: u32) {
-    say::task(rt, task);
-    say::answer(rt, row_reader::fetch(file, task));
+fn by_number(out: &mut StandardOutput, file: &[u8], task: u32) {
+    say::numbered(out, "task", u64::from(task));
+    say::answer(out, row_reader::fetch(file, task));
 }
 
-fn flow_a(rt: &impl Print) {
+fn flow_a(out: &mut StandardOutput) {
     let file = flows::file_a();
-    say::heading(rt, "flow A");
-    read_through(rt, &file, 6, 0);
-    by_number(rt, &file, 0);
-    by_number(rt, &file, 3);
-    by_number(rt, &file, 4);
-    by_number(rt, &file, 4294967295);
-    say::heading(rt, "flow A cut short");
-    read_through(rt, &file[0..511], 3, 0);
-    by_number(rt, &file[0..511], 4294967295);
+    writeln!(out, "flow A");
+    read_through(out, &file, 6, 0);
+    by_number(out, &file, 0);
+    by_number(out, &file, 3);
+    by_number(out, &file, 4);
+    by_number(out, &file, 4294967295);
+    writeln!(out, "flow A cut short");
+    read_through(out, &file[0..511], 3, 0);
+    by_number(out, &file[0..511], 4294967295);
 }
 
 // Kept: beside `block_7_changed`: two cases that change a byte of their own in a file of their own.
-fn another_check(rt: &impl Print) {
+fn another_check(out: &mut StandardOutput) {
     let mut file = flows::file_a();
     file[510] = 255;
-    say::heading(rt, "flow A with check A 255");
-    read_through(rt, &file, 3, 0);
+    writeln!(out, "flow A with check A 255");
+    read_through(out, &file, 3, 0);
 }
 
 // Task 2 declares cell 1 write only and is left without its operation; then the check fits the block again.
-fn forgotten_write(rt: &impl Print) {
+fn forgotten_write(out: &mut StandardOutput) {
     let mut file = flows::file_a();
     file[64 + 2] = 0;
     file[64 + 12] = 0;
     file[64 + 13] = 0;
     file[510] = 172;
     file[511] = 0;
-    say::heading(rt, "flow A with task 2 left without its operation");
-    read_through(rt, &file, 3, 0);
-    by_number(rt, &file, 1);
+    writeln!(out, "flow A with task 2 left without its operation");
+    read_through(out, &file, 3, 0);
+    by_number(out, &file, 1);
 }
 
-fn largest_flow(rt: &impl Print) {
+fn largest_flow(out: &mut StandardOutput) {
     let file = flows::largest_file();
-    say::heading(rt, "largest flow");
-    let in_order = read_through(rt, &file, Flow::MAX_TASKS + 3, Flow::MAX_TASKS);
-    say::in_order(rt, in_order);
-    by_number(rt, &file, Flow::MAX_TASKS);
-    by_number(rt, &file, Flow::MAX_TASKS + 1);
+    writeln!(out, "largest flow");
+    let in_order = read_through(out, &file, Flow::MAX_TASKS + 3, Flow::MAX_TASKS);
+    say::in_order(out, in_order);
+    by_number(out, &file, Flow::MAX_TASKS);
+    by_number(out, &file, Flow::MAX_TASKS + 1);
 }
 
 // A byte of the last row of block 7.
-fn block_7_changed(rt: &impl Print) {
+fn block_7_changed(out: &mut StandardOutput) {
     let mut file = flows::largest_file();
     file[512 * 7 + 495] = 1;
-    say::heading(rt, "largest flow with block 7 changed");
-    read_through(rt, &file, 3, 0);
+    writeln!(out, "largest flow with block 7 changed");
+    read_through(out, &file, 3, 0);
 }
 
-fn main(rt: HostRuntime) {
-    flow_a(&rt);
-    another_check(&rt);
-    forgotten_write(&rt);
-    largest_flow(&rt);
-    block_7_changed(&rt);
+fn main() {
+    let mut out = StandardOutput;
+    flow_a(&mut out);
+    another_check(&mut out);
+    forgotten_write(&mut out);
+    largest_flow(&mut out);
+    block_7_changed(&mut out);
 }

@@ -1,42 +1,37 @@
-// The lines: the number of the call or of the task, and what was answered. What cannot be written is left out.
+// The lines: the number of the call or of the task, and what was answered.
 use crate::Found;
+use console::StandardOutput;
+use refusal::Refusal;
 use rows::Row;
 
-// Kept: beside `task` and `in_order`: a line each, and only the words differ, which are what a format is.
-pub(crate) fn heading(rt: &impl Print, words: &str) {
-    let _ = println!(rt; "{words}");
+// What the number counts, the number and a colon.
+pub(crate) fn numbered(out: &mut StandardOutput, kind: &str, number: u64) {
+    write!(out, "{kind} {number}:");
 }
 
-// The call's number, which counts from 1.
-pub(crate) fn called(rt: &impl Print, before: u32) {
-    let call = u64::from(before) + 1;
-    let _ = print!(rt; "call {call}:");
-}
-
-pub(crate) fn task(rt: &impl Print, task: u32) {
-    let _ = print!(rt; "task {task}:");
-}
-
-fn row(rt: &impl Print, row: &Row) {
-    let _ = print!(rt; " row");
+fn row(out: &mut StandardOutput, row: &Row) {
+    write!(out, " row");
     for byte in row {
-        let _ = print!(rt; " {byte}");
+        write!(out, " {byte}");
     }
-    let _ = println!(rt);
 }
 
-pub(crate) fn answer(rt: &impl Print, found: Found) {
+// The words and the spaces after them are pieces of their own.
+fn refused(out: &mut StandardOutput, met: Refusal) {
+    let number = met.rule.number();
+    let place = met.place;
+    write!(out, "{} {number}{} {place}", " refused", " place");
+}
+
+pub(crate) fn answer(out: &mut StandardOutput, found: Found) {
     match found {
-        Ok(Some(bytes)) => row(rt, &bytes),
-        Ok(None) => {
-            let _ = println!(rt; " end");
-        }
-        Err(met) => {
-            let _ = println!(rt; " {met}");
-        }
+        Ok(Some(bytes)) => row(out, &bytes),
+        Ok(None) => write!(out, " end"),
+        Err(met) => refused(out, met),
     }
+    writeln!(out);
 }
 
-pub(crate) fn in_order(rt: &impl Print, rows: u32) {
-    let _ = println!(rt; "rows in order: {rows}");
+pub(crate) fn in_order(out: &mut StandardOutput, rows: u32) {
+    writeln!(out, "{} {rows}", "rows in order:");
 }
