@@ -13,18 +13,20 @@ pub(crate) struct Outcome {
     pub(crate) held: bool,
 }
 
-// Makes the next call in the data. It held if it returned and filled in what is stored.
+// Makes the next call in the data. It held if it returned and filled in what is stored. All that the call is lent is asked for before
+// it is looked at whether it came.
 pub(crate) fn run(data: &mut impl Read) -> Result<Outcome, Unusable> {
     let head = Head::next(data)?;
     let mut room = [0u8; ROOM];
     let input = &mut room[..head.input];
-    stream::fill(data, input)?;
+    let has_input = stream::fill(data, input);
     let mut room = [0u8; ROOM];
     let lent = &mut room[..head.lent];
-    stream::fill(data, lent)?;
+    let has_lent = stream::fill(data, lent);
     let mut room = [0u8; ROOM_SCHEDULE];
     let schedule = &mut room[..head.schedule];
-    stream::fill_repeated(data, schedule, head.stored)?;
+    let has_schedule = stream::fill_repeated(data, schedule, head.stored);
+    has_input.and(has_lent).and(has_schedule)?;
     let answer = calls::make(&head, input, lent, schedule);
     let mut room = [0u8; ROOM];
     let after = &mut room[..head.lent];

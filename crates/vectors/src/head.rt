@@ -36,13 +36,16 @@ pub(crate) struct Head {
     ghost stored_fits: { stored ≤ schedule },
 }
 
-// So many numbers from the data.
-fn next_numbers<const N: usize>(data: &mut impl Read) -> Result<[u32; N], Unusable> {
-    let mut bytes = [[0u8; 4]; N];
+// The numbers of a head from the data: eight, and the words of its answer.
+fn next_numbers(data: &mut impl Read) -> Result<([u32; 8], [u32; WORDS]), Unusable> {
+    let mut bytes = [[0u8; 4]; 8 + WORDS];
     stream::fill(data, bytes.as_flattened_mut())?;
-    let mut all = [0u32; N];
-    numbers::take(&bytes, &mut all);
-    Ok(all)
+    let (first, others) = bytes.split_at(8);
+    let mut eight = [0u32; 8];
+    numbers::take(first, &mut eight);
+    let mut answer = [0u32; WORDS];
+    numbers::take(others, &mut answer);
+    Ok((eight, answer))
 }
 
 // Whether the lent bytes are whole cells, where they are cells: at most 256.
@@ -56,9 +59,8 @@ fn has_cells(call: Call, lent: usize) -> bool {
 impl Head {
     // The head that is next in the data, if it can be the head of a case.
     pub(crate) fn next(data: &mut impl Read) -> Result<Head, Unusable> {
-        let numbers = next_numbers::<8>(data)?;
+        let (numbers, answer) = next_numbers(data)?;
         let [call, version, workers, cells, input, lent, schedule, stored] = numbers;
-        let answer = next_numbers::<WORDS>(data)?;
         let call = Call::try_from(call)?;
         let (input, lent) = (input as usize, lent as usize);
         let (schedule, stored) = (schedule as usize, stored as usize);

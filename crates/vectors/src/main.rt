@@ -10,44 +10,45 @@ mod numbers;
 mod stream;
 mod tally;
 
-use std::io;
+use console::{StandardInput, StandardOutput};
 use std::io::Read;
 use tally::Tally;
 
+fn line(out: &mut StandardOutput, words: &str) {
+    writeln!(out, "{words}");
+}
+
 // What is said of all cases, where the data ends with the last.
-fn finish(rt: &impl Print, data: &mut impl Read, tally: &Tally) -> io::Result<()> {
+fn finish(out: &mut StandardOutput, data: &mut impl Read, tally: &Tally) {
     if stream::is_at_end(data) {
-        tally.say(rt)
+        tally.say(out);
     } else {
-        println!(rt; "there is data after the last case")
+        line(out, "there is data after the last case");
     }
 }
 
-fn each_case(rt: &impl Print, data: &mut impl Read, count: u32) -> io::Result<()> {
+fn each_case(out: &mut StandardOutput, data: &mut impl Read, count: u32) {
     let mut tally = Tally::new();
     for index in 0..count {
         let outcome = match case::run(data) {
             Ok(outcome) => outcome,
-            Err(unusable) => return println!(rt; "case {index} {unusable}"),
+            Err(unusable) => return writeln!(out, "case {index} {unusable}"),
         };
         if !outcome.held {
-            println!(rt; "case {index} {} differs", outcome.call)?;
+            write!(out, "case {index} {}", outcome.call);
+            line(out, " differs");
         }
         tally.add(outcome);
     }
-    finish(rt, data, &tally)
+    finish(out, data, &tally);
 }
 
-fn run(rt: &(impl Input + Print)) -> io::Result<()> {
-    let mut data = rt.reader();
+fn main() {
+    let mut out = StandardOutput;
+    let mut data = StandardInput::new();
     let mut count = [0u8; 4];
     match stream::fill(&mut data, &mut count) {
-        Ok(()) => each_case(rt, &mut data, u32::from_le_bytes(count)),
-        Err(_) => println!(rt; "there are no cases"),
+        Ok(()) => each_case(&mut out, &mut data, u32::from_le_bytes(count)),
+        Err(_) => line(&mut out, "there are no cases"),
     }
-}
-
-fn main(rt: HostRuntime) {
-    // A failed write ends the program, silently and with status 0.
-    let _ = run(&rt);
 }

@@ -2,7 +2,7 @@
 use crate::call::Call;
 use crate::case::Outcome;
 use crate::head;
-use std::io;
+use console::StandardOutput;
 
 #[derive(Drop)]
 pub(crate) struct Tally {
@@ -42,26 +42,24 @@ impl Tally {
     }
 
     // A line for each call with how many cases there were of it.
-    fn say_calls(&self, rt: &impl Print) -> io::Result<()> {
+    fn say_calls(&self, out: &mut StandardOutput) {
         for call in Call::ALL {
-            println!(rt; "{call} {}", self.calls[call as usize])?;
+            writeln!(out, "{call} {}", self.calls[call as usize]);
         }
-        Ok(())
     }
 
     // A line for each number that was answered, with how often.
-    fn say_numbers(&self, rt: &impl Print) -> io::Result<()> {
+    fn say_numbers(&self, out: &mut StandardOutput) {
         for (number, met) in self.numbers.iter().enumerate() {
             if *met != 0 {
-                println!(rt; "number {number} met {met}")?;
+                writeln!(out, "number {number} met {met}");
             }
         }
-        Ok(())
     }
 
-    pub(crate) fn say(&self, rt: &impl Print) -> io::Result<()> {
-        self.say_calls(rt)?;
-        self.say_numbers(rt)?;
-        println!(rt; "held {} differed {}", self.held, self.differed)
+    pub(crate) fn say(&self, out: &mut StandardOutput) {
+        self.say_calls(out);
+        self.say_numbers(out);
+        writeln!(out, "held {} differed {}", self.held, self.differed);
     }
 }
