@@ -1,6 +1,6 @@
 -- Where a reader stands after so many calls: each call adds 1 to a number that a task can have, and the first number past those
 -- stays.
-use Rattle.std.proofs.Common.{◌≡◌, ℕ, zero, suc, ◌+◌, ◌≤◌, ◌<◌, min, true, false, ap, ◌∙◌, arith}
+use Rattle.std.proofs.Common.{◌≡◌, ℕ, zero, suc, ◌+◌, ◌≤◌, ◌<◌, min, Bool, true, false, cond, ap, ◌∙◌, arith}
 use Rattle.std.proofs.lemmas.Bool.Decides.{nat_tests}
 use Rattle.layout.specs.Flow.{most_tasks, up_to}
 use Rattle.row_reader.specs.Promises.{following}
@@ -12,6 +12,12 @@ is_up_to limit n some most = grind (arith, nat_tests)
 
 pub is_past : (limit n : ℕ) → limit < n → up_to limit n ≡ false
 is_past limit n h = grind (arith, nat_tests)
+
+-- ---- one call
+
+-- a number that no task can have stays
+pub stays : (task : ℕ) → up_to most_tasks task ≡ false → following task ≡ task
+stays task h = ap (λ (b : Bool). cond b (task + 1) task) h
 
 -- ---- so many calls
 

@@ -12,7 +12,7 @@ use Rattle.layout.specs.Block.{blocks_for}
 use Rattle.layout.specs.Write.{row_count, rows_sound, row_of_task, rows_answer, write_answer}
 use Rattle.roundtrip.proofs.NoRefusal.{and_iff}
 use Rattle.refusal.specs.declared.Rule.{Rule}
-use Rattle.refusal.specs.declared.Rule.TheVariants.{Rows}
+use Rattle.refusal.specs.declared.Rule.TheVariants.{Rows, Version}
 use Rattle.refusal.specs.declared.Refusal.{Refusal}
 use Rattle.refusal.specs.Numbers.{number_of, answer_of}
 use Rattle.refusal.proofs.Unique.{number_positive}
@@ -70,6 +70,13 @@ flow_refused {rows} version {tasks} workers cells room rule whole e = go (known_
         let range : in_range (row_count rows) workers cells ≡ false = rw whole.count_is at r in
         rw (whole.sound, k, range) (ap (λ (a : FlowAnswer). refusal a.number 0) p)
     go false r k s p = rw (whole.sound, k) (ap (λ (a : FlowAnswer). refusal a.number 0) p)
+
+-- whatever the sizes are: another version than 1 and 2 is looked at before them
+pub version_refused : {rows : List ℕ} (version : ℕ) {tasks : ℕ} (workers cells room : ℕ) → Counted rows tasks → known_version version ≡ false
+    → refusal 22 0 ≡ write_answer rows version workers cells room
+version_refused version {tasks} workers cells room whole other =
+    flow_refused version workers cells room Version whole
+    (sym (ap (λ (b : Bool). cond b (cond (in_range tasks workers cells) (stated version tasks workers cells) (refused 4)) (refused 22)) other))
 
 -- ---- a flow is made of them
 
