@@ -33,7 +33,7 @@ plain_result_unique file cells r s r_after s_after p q =
     (met_unique r s (ap (λ (a : PlainAnswer). refusal a.number a.place) same.0), same.1)
 
 -- a latest held step is told by its reason and its cell
-latest_told : (a b : Option Held) → reason_in a ≡ reason_in b → cell_in a ≡ cell_in b → a ≡ b
+pub latest_told : (a b : Option Held) → reason_in a ≡ reason_in b → cell_in a ≡ cell_in b → a ≡ b
 latest_told None None r c = refl
 latest_told None (Some PastLast) r c = cc
 latest_told None (Some (WriteDiffers cell)) r c = cc
@@ -52,7 +52,7 @@ latest_told (Some (ReadsDiffer cell)) (Some (WriteDiffers other)) r c = cc
 latest_told (Some (ReadsDiffer cell)) (Some (ReadsDiffer other)) r c = ap (λ (n : ℕ). Some (ReadsDiffer n)) c
 
 -- and so are those of all workers
-all_told : (xs ys : List (Option Held)) → map reason_in xs ≡ map reason_in ys → map cell_in xs ≡ map cell_in ys → xs ≡ ys
+pub all_told : (xs ys : List (Option Held)) → map reason_in xs ≡ map reason_in ys → map cell_in xs ≡ map cell_in ys → xs ≡ ys
 all_told [] [] r c = refl
 all_told [] (y ∷ ys) r c = cc
 all_told (x ∷ xs) [] r c = cc
