@@ -36,7 +36,13 @@ impl FullRun {
         let mut cells = [0; Flow::ROOM_FOR_CELLS];
         let mut schedule = [0; MOST_STEPS];
         let count = measured.flow.cells as usize;
-        let ran = in_turn::run(file, measured, &mut cells[..count], &mut schedule);
+        let ran = in_turn::run(
+            file,
+            measured.flow.workers,
+            measured.total,
+            &mut cells[..count],
+            &mut schedule,
+        );
         Ok(FullRun {
             measured,
             ran,

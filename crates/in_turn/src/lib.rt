@@ -8,7 +8,6 @@ ghost use Rattle.steps.specs.Turns.{turns};
 ghost use Rattle.run.specs.Answers.{answer_by};
 ghost use Rattle.in_turn.specs.Promises.{Measures, InTurnPromise};
 
-use measure::Measured;
 use run::Ran;
 
 // What the programs name, at the front of the room, and how many bytes that is. There is room for the longest.
@@ -21,13 +20,13 @@ fn name_workers(workers: u32, total: u32, room: &mut [u8]) -> usize
     steps
 }
 
-// Runs a measured flow from as many lent cells as it has. It is never refused, and it always finishes.
-pub fn run(file: &[u8], measured: Measured, cells: &mut [u32], room: &mut [u8]) -> Ran
-    requires measures { Measures file.now measured.flow.workers measured.total cells.old }
+// Runs a flow of so many workers and this total from as many lent cells as it has. It is never refused, and it always finishes.
+pub fn run(file: &[u8], workers: u32, total: u32, cells: &mut [u32], room: &mut [u8]) -> Ran
+    requires measures { Measures file.now workers total cells.old }
     requires room { most_workers * largest_total ≤ length room.old }
     ensures promised { InTurnPromise file.now cells.old (answer_by (Ok result)) cells.new }
     ensures finishes { result.finished ≡ true }
 {
-    let steps = name_workers(measured.flow.workers, measured.total, room);
+    let steps = name_workers(workers, total, room);
     run::run(file, cells, &room[..steps]).unwrap()
 }
