@@ -7,7 +7,7 @@ ghost use Rattle.std.specs.Prelude.{◌≡◌, ◌<◌};
 
 use flow::Flow;
 use machine::Held;
-pub use numbers::reason_and_cell;
+pub use numbers::{Counts, PerWorker, note, reason_and_cell};
 
 // How many steps were held for each reason, and of each worker why its latest held step was; none where it had none.
 #[derive(Clone, Copy, Debug, PartialEq, Eq)]
