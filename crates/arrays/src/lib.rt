@@ -56,6 +56,51 @@ impl Place {
 
 pub type Places = [Place; Flow::ROOM_FOR_WORKERS];
 
+// For a caller who keeps bare numbers: a counter from its two, a stage from its number, and a place from its four, whatever they are. A
+// worker past the last task may have any number for its stage.
+impl From<[u32; 2]> for Counter {
+    ghost use Rattle.arrays.specs.Numbers.{counter_of_numbers};
+
+    ghost from_gives = { λ numbers counter. counter ≡ counter_of_numbers numbers };
+
+    fn from(numbers: [u32; 2]) -> Counter {
+        let [last_write, reads] = numbers;
+        Counter { last_write, reads }
+    }
+}
+
+impl From<u32> for Stage {
+    ghost use Rattle.arrays.specs.Numbers.{stage_of_number};
+
+    ghost from_gives = { λ number stage. stage ≡ stage_of_number number };
+
+    fn from(number: u32) -> Stage {
+        match number {
+            0 => Stage::WaitWrite,
+            1 => Stage::WaitReads,
+            2 => Stage::Operate,
+            3 => Stage::End,
+            _ => Stage::Post,
+        }
+    }
+}
+
+impl From<[u32; 4]> for Place {
+    ghost use Rattle.arrays.specs.Numbers.{place_of_numbers};
+
+    ghost from_gives = { λ numbers place. place ≡ place_of_numbers numbers };
+
+    fn from(numbers: [u32; 4]) -> Place {
+        let [passed, stage, at, row] = numbers;
+        Place {
+            passed,
+            stage: Stage::from(stage),
+            index: at,
+            row,
+        }
+    }
+}
+
 // What a run keeps beside the cells.
 #[derive(Drop)]
 pub struct Kept {
