@@ -11,6 +11,7 @@ mod stream;
 mod tally;
 
 use console::{StandardInput, StandardOutput};
+use head::{ROOM, ROOM_SCHEDULE};
 use std::io::Read;
 use tally::Tally;
 
@@ -28,9 +29,13 @@ fn finish(out: &mut StandardOutput, data: &mut impl Read, tally: &Tally) {
 }
 
 fn each_case(out: &mut StandardOutput, data: &mut impl Read, count: u32) {
+    let mut input = [0; ROOM];
+    let mut lent = [0; ROOM];
+    let mut schedule = [0; ROOM_SCHEDULE];
+    let mut after = [0; ROOM];
     let mut tally = Tally::new();
     for index in 0..count {
-        let outcome = match case::run(data) {
+        let outcome = match case::run(data, &mut input, &mut lent, &mut schedule, &mut after) {
             Ok(outcome) => outcome,
             Err(unusable) => return writeln!(out, "case {index} {unusable}"),
         };
