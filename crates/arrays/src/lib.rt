@@ -58,6 +58,7 @@ pub type Places = [Place; Flow::ROOM_FOR_WORKERS];
 
 // For a caller who keeps bare numbers: a counter from its two, a stage from its number, and a place from its four, whatever they are. A
 // worker past the last task may have any number for its stage.
+// Kept: `machine::stepping::step` took places as numbers, and asks no more than it did of a caller who has them.
 impl From<[u32; 2]> for Counter {
     ghost use Rattle.arrays.specs.Numbers.{counter_of_numbers};
 

@@ -9,6 +9,7 @@ use flow::Flow;
 use machine::Held;
 
 // How many steps were held for each reason: past the last task, the last write differs, the reads differ.
+// Kept: `note` below took any numbers, and promises of them what it did; `Notes` has fewer.
 pub type Counts = [u32; 3];
 
 // A number for each worker.
