@@ -1,6 +1,5 @@
--- What the check answers follows from the answer that its rules give: with a refusal every size and the version is 0, and with success
--- they are told. What a call that goes on after the check has of it: the same answer, and of an accepted file the sizes, which are within the
--- limits, the rows and the flow.
+-- What a call that goes on after the check has of it: with a refusal the bytes that it was lent are as they were; the same answer, and of an
+-- accepted file the sizes, which are within the limits, the rows and the flow.
 use mathlib.Core.Path.{◌≡◌, sym, ap, subst, ◌∙◌}
 use mathlib.Core.List.{List}
 use Prim.Native.Nat.{ℕ, ◌*◌, ◌≤◌, ◌<◌}
@@ -15,15 +14,12 @@ use Rattle.layout.specs.File.{version_of, tasks_of, workers_of, cells_of, file_a
 use Rattle.layout.proofs.Blocks.{version_byte}
 use Rattle.roundtrip.proofs.Answers.{FileKept, file_keeps, keeps_file}
 use Rattle.roundtrip.proofs.Read.{fewest, file_sizes, version_known}
-use Rattle.file.specs.Answers.{CheckAnswer, check_refused, check_with}
+use Rattle.file.specs.Answers.{CheckAnswer, check_with}
 use Rattle.file.specs.Promises.{CheckPromise}
 
 -- ---- with a refusal
 
 module _ (met : Rules.Answer) (some : met.number ≡ 0 → ⊥) where
-  check_zeros : (file : List ℕ) → check_refused met ≡ check_with met file
-  check_zeros file = rw (ne_eqb met.number 0 some)
-
   -- a call that fills lent bytes leaves them as they were
   pub lent_kept : (bytes lent : List ℕ) → lent ≡ lent_after met bytes lent
   lent_kept bytes lent = rw (ne_eqb met.number 0 some)

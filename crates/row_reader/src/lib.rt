@@ -17,6 +17,7 @@ pub struct Rows<'a> {
 }
 
 // The row of a task: none where the file has no task of that number, a refusal where the file is refused.
+#[tactic(auto, unfolding(crate::specs::Answers::answer_at))]
 pub fn fetch(file: &[u8], task: u32) -> Result<Option<Row>, Refusal>
     ensures { Answered file.now task result }
 {

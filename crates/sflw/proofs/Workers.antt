@@ -1,5 +1,5 @@
 -- The words of a stepped run, written worker by worker.
-use Rattle.std.proofs.Common.{◌≡◌, ℕ, zero, suc, ◌+◌, ◌*◌, List, [], ◌∷◌, Bool, cond, map, get_or, set, Option, None, Ok, refl}
+use Rattle.std.proofs.Common.{◌≡◌, ℕ, zero, suc, ◌+◌, ◌*◌, List, [], ◌∷◌, Bool, cond, map, get_or, set, Option, None, Ok, refl, ap, add-one}
 use Rattle.machine.specs.declared.Held.{Held}
 use Rattle.notes.specs.Noted.{reason_in, cell_in}
 use Rattle.run.specs.declared.Ran.{Ran}
@@ -11,6 +11,12 @@ unfoldable pub told : List ℕ → List (Option Held) → ℕ → List ℕ
 told first latest zero = first
 told first latest (suc w) =
     set (set (told first latest w) (9 + 2 * w) (reason_in (get_or latest w None))) (10 + 2 * w) (cell_in (get_or latest w None))
+
+-- with those of one worker more
+pub told_more : (first : List ℕ) (latest : List (Option Held)) (w : ℕ) → told first latest (w + 1)
+    ≡ set (set (told first latest w) (9 + 2 * w) (reason_in (get_or latest w None))) (10 + 2 * w) (cell_in (get_or latest w None))
+unfolding told
+told_more first latest w = ap (told first latest) (add-one w)
 
 -- the words before any worker's
 abbrev pub first_words : Ran → ℕ → List ℕ

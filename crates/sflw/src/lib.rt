@@ -101,6 +101,7 @@ pub fn sflw_plain(file: &[u8], cells: &mut [u32], answer: &mut [u32; 2]) -> u32
 }
 
 // The words of a stepped run.
+#[tactic(auto, using(crate::proofs::Workers::told_more))]
 fn tell_run(ran: run::Ran, answer: &mut [u32; 25])
     ensures { answer.new ≡ run_words (answer_by (Ok ran)) }
 {

@@ -45,6 +45,7 @@ fn fill_blocks(rows: &[u8], out: &mut [u8], flow: Flow)
 }
 
 // Writes rows, a version, workers and cells as a file: the bytes written, or a refusal that changes no byte.
+#[tactic(auto, unfolding(layout::specs::Write::write_answer, layout::specs::Write::rows_answer))]
 pub fn write(
     rows: &[u8],
     version: u32,

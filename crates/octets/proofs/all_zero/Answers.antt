@@ -1,4 +1,4 @@
-use Rattle.std.proofs.Common.{◌≡◌, ℕ, zero, suc, List, ◌∷◌, [], ◌++◌, ◌∙◌, refl, sym, ap, rules, tests, arith}
+use Rattle.std.proofs.Common.{◌≡◌, ℕ, zero, suc, List, ◌∷◌, [], ◌++◌, ◌∙◌, refl, sym, ap, arith}
 use mathlib.Core.Bool.{Bool, ◌&&◌}
 use lib.Bits.{bit_or, or_add_and, and_le_r}
 use borrow.Author.Tests.{ne_eqb}
@@ -15,10 +15,10 @@ or_none (suc m) n =
     ne_eqb (bit_or (suc m) n) 0 (λ e. omega (arith, or_add_and (suc m) n, and_le_r (suc m) n, e)) ∙ ap (λ (t : Bool). t && eqb n 0) (sym (eqb-suc-zero m))
 
 -- one byte more
-more : (ys : List ℕ) (a x b : ℕ) → eqb a 0 ≡ all_zero ys → b ≡ bit_or a x → eqb b 0 ≡ all_zero (ys ++ (x ∷ []))
+more : (ys : List ℕ) (a x b : ℕ) → eqb a 0 ≡ all_zero ys → eqb b 0 ≡ (eqb a 0 && eqb x 0) → eqb b 0 ≡ all_zero (ys ++ (x ∷ []))
 unfolding all_zero
 more ys a x b before e =
-    ap (λ (n : ℕ). eqb n 0) e ∙ or_none a x ∙ ap (λ (t : Bool). t && eqb x 0) before
+    e ∙ ap (λ (t : Bool). t && eqb x 0) before
     ∙ ap (λ (t : Bool). all_zero ys && t) (sym (and-true (eqb x 0)))
     ∙ sym (zero-append ys (x ∷ []))
 
@@ -27,5 +27,5 @@ unfolding all_zero
 returns c =
     rw (← c.iter.ensures.rest)
     (fold_over fronts (λ y. y.now) _ (λ (ys : List ℕ) (a : ℕ). eqb a 0 ≡ all_zero ys) _
-    (λ ys a x b f h k. let e : b ≡ bit_or a x.now = search (rules, tests) in (more ys a x.now b h e, refl))
+    (λ ys a x b f h k. let e : eqb b 0 ≡ (eqb a 0 && eqb x.now 0) = grind (arith, or_none) in (more ys a x.now b h e, refl))
     c.iter.result _ _ _ (slice_gives c.iter.result) refl c.fold.ensures.ran)
