@@ -1,0 +1,4 @@
+-- Laws of bare numbers and what they stand for, which the proofs of the code cite; and that a step's contract allows one outcome only.
+pub mod Numbers
+pub mod Bytes
+pub mod Unique

@@ -1,0 +1,2 @@
+-- What bare numbers of counters and places stand for.
+pub mod Numbers

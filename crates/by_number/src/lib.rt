@@ -1,0 +1,110 @@
+// One step of the stepped run for a caller who keeps the counters and the places as bare numbers, whatever they are past the last task.
+#![tactic(auto)]
+
+ghost use Rattle.std.specs.Prelude.{◌≡◌, ◌<◌, map};
+ghost use Rattle.layout.specs.Flow.{most_workers};
+ghost use Rattle.layout.specs.File.{tasks_in};
+ghost use Rattle.arrays.specs.Arrays.{machine_of, goes_to, most_reads, ReadsAtMost, Steppable, StepDone};
+ghost use Rattle.arrays.specs.Numbers.{counter_of_numbers};
+ghost use Rattle.machine.specs.Outcomes.{outcome_of};
+ghost use Rattle.by_number.specs.Numbers.{numbers_of_counter, number_of_stage, numbers_of_place, kept_of, standing_for, numbers_after};
+
+use arrays::{Counter, Counters, Kept, Place, Stage, Tasks};
+use flow::Flow;
+use machine::{Held, stepping};
+
+// Of each cell the last write and the reads since it; and those that each worker keeps.
+pub type CounterNumbers = [[u32; 2]; Flow::ROOM_FOR_CELLS];
+
+pub type AllCounterNumbers = [CounterNumbers; Flow::ROOM_FOR_WORKERS];
+
+// Of each worker the tasks gone past, the number of the stage from 0, the index, and the byte at which the next task's row starts.
+pub type PlaceNumbers = [[u32; 4]; Flow::ROOM_FOR_WORKERS];
+
+// A row names each cell by one byte, so no operation of a file names one that is not below this.
+const BYTE_VALUES: u32 = 256;
+
+fn counter_numbers(counter: Counter) -> [u32; 2]
+    ensures { result ≡ numbers_of_counter counter }
+{
+    [counter.last_write, counter.reads]
+}
+
+fn stage_number(stage: Stage) -> u32
+    ensures { result ≡ number_of_stage stage }
+{
+    match stage {
+        Stage::WaitWrite => 0,
+        Stage::WaitReads => 1,
+        Stage::Operate => 2,
+        Stage::End => 3,
+        Stage::Post => 4,
+    }
+}
+
+fn place_numbers(place: Place) -> [u32; 4]
+    ensures { result ≡ numbers_of_place place }
+{
+    [
+        place.passed,
+        stage_number(place.stage),
+        place.index,
+        place.row,
+    ]
+}
+
+fn row_numbers(row: Counters) -> CounterNumbers
+    ensures { result ≡ map numbers_of_counter row }
+{
+    row.map(counter_numbers)
+}
+
+fn row_from(numbers: CounterNumbers) -> Counters
+    ensures { result ≡ map counter_of_numbers numbers }
+{
+    numbers.map(Counter::from)
+}
+
+// What the numbers stand for.
+fn kept_from(shared: &CounterNumbers, private: &AllCounterNumbers, places: &PlaceNumbers) -> Kept
+    ensures { result ≡ kept_of shared.now «private».now places.now }
+{
+    Kept {
+        shared: row_from(*shared),
+        private: private.map(row_from),
+        places: places.map(Place::from),
+    }
+}
+
+// One step of a named worker, as `machine::stepping::step` makes it. Of the places only the worker's changes, and only where it moves on.
+pub fn step(
+    file: &[u8],
+    version: u32,
+    tasks: u32,
+    w: usize,
+    cells: &mut [u32],
+    shared: &mut CounterNumbers,
+    private: &mut AllCounterNumbers,
+    places: &mut PlaceNumbers,
+) -> Result<(), Held>
+    requires steppable { Steppable file.now tasks (standing_for cells.old shared.old «private».old places.old) × (w < most_workers) }
+    requires reads_at_most { ReadsAtMost most_reads (machine_of (tasks_in file.now tasks) (standing_for cells.old shared.old «private».old places.old)) }
+    ensures done { StepDone file.now version tasks w (standing_for cells.old shared.old «private».old places.old) (outcome_of result) (standing_for cells.new shared.new «private».new places.new) }
+    ensures places_after { places.new ≡ numbers_after (outcome_of result) places.old w (goes_to file.now (standing_for cells.old shared.old «private».old places.old) w) }
+{
+    let all = Tasks {
+        file,
+        version,
+        count: tasks,
+        cells: BYTE_VALUES,
+    };
+    let mut kept = kept_from(shared, private, places);
+    let answer = stepping::step(&all, w, cells, &mut kept);
+    *shared = row_numbers(kept.shared);
+    *private = kept.private.map(row_numbers);
+    let moved = answer.is_ok();
+    if moved {
+        places[w] = place_numbers(kept.places[w]);
+    }
+    answer
+}
