@@ -11,7 +11,7 @@ use Rattle.arrays.specs.Arrays.{nothing, Arrays, StepDone}
 use Rattle.arrays.specs.Numbers.{counter_of_numbers}
 use Rattle.machine.specs.declared.Held.{Held}
 use Rattle.machine.specs.Outcomes.{outcome_of}
-use Rattle.machine.proofs.Unique as Kept
+use Rattle.machine.proofs.Unique as Stepping
 use Rattle.by_number.specs.Numbers.{standing_for, numbers_after}
 
 -- counters of the sizes that the code's types give them, each of two numbers
@@ -59,7 +59,7 @@ same_rows shared shared' x y t t' same = ext_get_or [] x y (t.rows ∙ sym t'.ro
 
 -- what numbers stand for has the sizes that the law of the step asks
 typed : (cells : List ℕ) (shared : List (List ℕ)) (private : List (List (List ℕ))) (places : List (List ℕ)) → Typed shared private
-    → Kept.Typed (standing_for cells shared private places)
+    → Stepping.Typed (standing_for cells shared private places)
 typed cells shared private places t =
     record {
       shared_typed = length-map shared counter_of_numbers ∙ t.shared_typed;
@@ -82,7 +82,7 @@ module _ (r s : Result (Unit {0}) Held) (cells cells' : List ℕ) (shared shared
       → (r ≡ s) × (cells ≡ cells') × (shared ≡ shared') × (private ≡ private') × (places ≡ places')
   step_unique file version tasks w before numbers next t t' p q at at' =
       let one =
-      Kept.step_unique r s (standing_for cells shared private places) (standing_for cells' shared' private' places') (typed cells shared private places t)
+      Stepping.step_unique r s (standing_for cells shared private places) (standing_for cells' shared' private' places') (typed cells shared private places t)
       (typed cells' shared' private' places' t') file version tasks w before p q
       in (
         one.0,

@@ -1,4 +1,5 @@
-// One step of the stepped run for a caller who keeps the counters and the places as bare numbers, whatever they are past the last task.
+// One step of the stepped run for a caller who keeps the counters and the places as bare numbers. Past the last task a worker may have any
+// numbers for its stage and its index.
 #![tactic(auto)]
 
 ghost use Rattle.std.specs.Prelude.{◌≡◌, ◌<◌, map};
@@ -14,6 +15,7 @@ use flow::Flow;
 use machine::{Held, stepping};
 
 // Of each cell the last write and the reads since it; and those that each worker keeps.
+// Kept: `machine::stepping::step` took these numbers, and a caller who has them is asked no more than he was; so the places, and the match on a stage below.
 pub type CounterNumbers = [[u32; 2]; Flow::ROOM_FOR_CELLS];
 
 pub type AllCounterNumbers = [CounterNumbers; Flow::ROOM_FOR_WORKERS];
@@ -21,7 +23,7 @@ pub type AllCounterNumbers = [CounterNumbers; Flow::ROOM_FOR_WORKERS];
 // Of each worker the tasks gone past, the number of the stage from 0, the index, and the byte at which the next task's row starts.
 pub type PlaceNumbers = [[u32; 4]; Flow::ROOM_FOR_WORKERS];
 
-// A row names each cell by one byte, so no operation of a file names one that is not below this.
+// A row names each cell by one byte, so each is below this.
 const BYTE_VALUES: u32 = 256;
 
 fn counter_numbers(counter: Counter) -> [u32; 2]
@@ -53,13 +55,13 @@ fn place_numbers(place: Place) -> [u32; 4]
     ]
 }
 
-fn row_numbers(row: Counters) -> CounterNumbers
-    ensures { result ≡ map numbers_of_counter row }
+fn counters_numbers(counters: Counters) -> CounterNumbers
+    ensures { result ≡ map numbers_of_counter counters }
 {
-    row.map(counter_numbers)
+    counters.map(counter_numbers)
 }
 
-fn row_from(numbers: CounterNumbers) -> Counters
+fn counters_from(numbers: CounterNumbers) -> Counters
     ensures { result ≡ map counter_of_numbers numbers }
 {
     numbers.map(Counter::from)
@@ -70,8 +72,8 @@ fn kept_from(shared: &CounterNumbers, private: &AllCounterNumbers, places: &Plac
     ensures { result ≡ kept_of shared.now «private».now places.now }
 {
     Kept {
-        shared: row_from(*shared),
-        private: private.map(row_from),
+        shared: counters_from(*shared),
+        private: private.map(counters_from),
         places: places.map(Place::from),
     }
 }
@@ -100,11 +102,11 @@ pub fn step(
     };
     let mut kept = kept_from(shared, private, places);
     let answer = stepping::step(&all, w, cells, &mut kept);
-    *shared = row_numbers(kept.shared);
-    *private = kept.private.map(row_numbers);
-    let moved = answer.is_ok();
-    if moved {
-        places[w] = place_numbers(kept.places[w]);
-    }
+    *shared = counters_numbers(kept.shared);
+    *private = kept.private.map(counters_numbers);
+    places[w] = match answer {
+        Ok(()) => place_numbers(kept.places[w]),
+        Err(_) => places[w],
+    };
     answer
 }

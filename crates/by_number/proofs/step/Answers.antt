@@ -1,14 +1,18 @@
 -- `step` meets its contract: it is the step of what the numbers stand for, and the numbers are told back.
-use Rattle.std.proofs.Common.{rules, ◌≡◌, [], ℕ, List, true, false, map, set, length, sym, ap, ◌∙◌}
+use Rattle.std.proofs.Common.{rules, ◌≡◌, [], ℕ, List, map, length, Bool, Result, sym, ap, ◌∙◌}
 use Rattle.layout.specs.Bytes.{IsBytes}
 use Rattle.arrays.specs.declared.Kept.{Kept}
-use Rattle.arrays.specs.Arrays.{moves_on}
+use Rattle.arrays.specs.Arrays.{lent, no_place, moves_on, places_after, goes_to}
 use Rattle.arrays.specs.Numbers.{place_of_numbers}
+use Rattle.machine.specs.declared.Held.{Held}
 use Rattle.machine.specs.Outcomes.{outcome_of}
-use Rattle.by_number.specs.Numbers.{numbers_of_counter}
-use Rattle.by_number.proofs.Numbers.{mapped, stored_told, step_told, moved_on, stayed, moves_on_ok}
+use Rattle.machine.proofs.Steps.{stays}
+use Rattle.by_number.specs.Numbers.{numbers_of_counter, standing_for}
+use Rattle.by_number.proofs.Mapped.{mapped}
 use Rattle.by_number.proofs.Bytes.{ready_at}
+use Rattle.by_number.proofs.Steps.{step_told, told_after, moved_told, held_told}
 use Rattle.by_number.proofs.step.Goals as goal
+use Rattle.by_number.proofs.step.Goals.{in-Ok, in-Err}
 
 -- a row's bytes name no cell above those that a byte can name
 pub invariant_of-all : goal.invariant_of-all
@@ -17,24 +21,35 @@ invariant_of-all c =
     let a = c.args in
     record { ready = ready_at a.file.now a.tasks (length a.cells.now) (search rules) c.requires.steppable.0.ready }
 
-pub returns-then-moved-clause-done : goal.returns-then-moved-clause-done
-returns-then-moved-clause-done c =
-    let a = c.args in
-    let made = c.step-answer in
-    let moved : moves_on (outcome_of made.result) ≡ true = moves_on_ok made.result ∙ sym c.if-moved.ensures.value in
-    step_told _ _ _ a.w _ _ _ _ made.new.kept _ _ _ _ _ _ c.kept_from-kept.ensures c.row_numbers.ensures
-    (mapped _ (λ row. map numbers_of_counter row) [] _ made.new.kept.private c.map.result 8 (search rules) c.map.ensures.items (λ p q x y call. search rules))
-    (ap (λ (numbers : List ℕ). map place_of_numbers (set a.places.now a.w numbers)) c.place_numbers.ensures
-    ∙ stored_told a.places.now a.w _ _ made.new.kept.places (search rules)
-    (moved_on _ _ _ a.w _ a.places.now made.ensures.places_are (ap (λ (kept : Kept). kept.places) c.kept_from-kept.ensures) moved))
-    made.ensures
+-- the places that are kept, said of the numbers
+places_are : (c : goal.Joined-answer)
+    → c.step-answer.new.kept.places
+    ≡ places_after (outcome_of c.step-answer.result) (map place_of_numbers c.args.places.now) c.args.w
+    (goes_to c.args.file.now (standing_for c.args.cells.now c.args.shared.now c.args.private.now c.args.places.now) c.args.w)
+places_are c =
+    c.step-answer.ensures.places_are
+    ∙ ap
+    (λ (kept : Kept). places_after (outcome_of c.step-answer.result) kept.places c.args.w (goes_to c.args.file.now (lent c.args.cells.now kept) c.args.w))
+    c.kept_from-kept.ensures
 
-pub returns-else-moved-clause-done : goal.returns-else-moved-clause-done
-returns-else-moved-clause-done c =
+-- whether a worker moves on with an answer
+abbrev moving : Result (Unit {0}) Held → Bool
+moving answer = moves_on (outcome_of answer)
+
+pub returns-clause-places_after : goal.returns-clause-places_after
+returns-clause-places_after c =
+    let a = c.args in
+    elim c.match-answer.branch [
+      | in-Ok w ↦
+          moved_told _ a.places.now c.step-answer.new.kept.places a.w _ no_place _ (search rules) (ap moving w.in-Ok.is) (places_are c) (search rules)
+      | in-Err w ↦ held_told _ a.places.now a.w _ _ (ap moving w.in-Err.is ∙ stays w.in-Err.field-0) w.places-is
+    ]
+
+pub returns-clause-done : goal.returns-clause-done
+returns-clause-done c =
     let a = c.args in
     let made = c.step-answer in
-    let held : moves_on (outcome_of made.result) ≡ false = moves_on_ok made.result ∙ sym c.if-moved.ensures.value in
-    step_told _ _ _ a.w _ _ _ _ made.new.kept _ _ _ _ _ _ c.kept_from-kept.ensures c.row_numbers.ensures
+    step_told _ _ _ a.w _ _ _ _ made.new.kept _ _ _ _ _ _ c.kept_from-kept.ensures c.counters_numbers.ensures
     (mapped _ (λ row. map numbers_of_counter row) [] _ made.new.kept.private c.map.result 8 (search rules) c.map.ensures.items (λ p q x y call. search rules))
-    (stayed _ _ _ a.w _ a.places.now made.ensures.places_are (ap (λ (kept : Kept). kept.places) c.kept_from-kept.ensures) held)
+    (ap (λ (numbers : List (List ℕ)). map place_of_numbers numbers) (returns-clause-places_after c) ∙ told_after _ a.places.now a.w _ ∙ sym (places_are c))
     made.ensures

@@ -1,8 +1,8 @@
--- `row_from` meets its contract: each counter is converted by itself.
+-- `counters_from` meets its contract: each counter is converted by itself.
 use Rattle.std.proofs.Common.{rules, []}
 use Rattle.arrays.specs.Numbers.{counter_of_numbers}
-use Rattle.by_number.proofs.Numbers.{mapped}
-use Rattle.by_number.proofs.row_from.Goals as goal
+use Rattle.by_number.proofs.Mapped.{mapped}
+use Rattle.by_number.proofs.counters_from.Goals as goal
 
 pub returns : goal.returns
 returns c =
