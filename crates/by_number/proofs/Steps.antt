@@ -1,4 +1,4 @@
--- A step over numbers: what they stand for makes it, the worker's place is told by its numbers, and all other numbers stay.
+-- A step over numbers: what they stand for makes it, the worker's place is told by its numbers, and those of all other places stay.
 use mathlib.Core.Path.{sym, ap, ◌∙◌}
 use lib.Dec.{eqb}
 use Rattle.std.proofs.Common.{◌≡◌, Bool, true, false, cond, subst, ℕ, ◌+◌, ◌<◌, ◌≤◌, List, [], ◌∷◌, length, get_or, set, map, refl, arith}

@@ -15,7 +15,8 @@ use flow::Flow;
 use machine::{Held, stepping};
 
 // Of each cell the last write and the reads since it; and those that each worker keeps.
-// Kept: `machine::stepping::step` took these numbers, and a caller who has them is asked no more than he was; so the places, and the match on a stage below.
+// Kept: `machine::stepping::step` took these numbers, and a caller who has them is asked no more than before. The places, and the match on
+// a stage below, are kept for the same reason.
 pub type CounterNumbers = [[u32; 2]; Flow::ROOM_FOR_CELLS];
 
 pub type AllCounterNumbers = [CounterNumbers; Flow::ROOM_FOR_WORKERS];
