@@ -10,7 +10,7 @@ ghost use Rattle.arrays.specs.Numbers.{counter_of_numbers};
 ghost use Rattle.machine.specs.Outcomes.{outcome_of};
 ghost use Rattle.by_number.specs.Numbers.{numbers_of_counter, number_of_stage, numbers_of_place, kept_of, standing_for, numbers_after};
 
-use arrays::{Counter, Counters, Kept, Place, Stage, Tasks};
+use arrays::{AllCounters, Counter, Counters, Kept, Place, Stage, Tasks};
 use flow::Flow;
 use machine::{Held, stepping};
 
@@ -56,27 +56,44 @@ fn place_numbers(place: Place) -> [u32; 4]
     ]
 }
 
-fn counters_numbers(counters: Counters) -> CounterNumbers
-    ensures { result ≡ map numbers_of_counter counters }
+// The numbers of a row of counters.
+fn tell_row(numbers: &mut CounterNumbers, counters: &Counters)
+    ensures { numbers.new ≡ map numbers_of_counter counters.now }
 {
-    counters.map(counter_numbers)
+    for c in 0..Flow::ROOM_FOR_CELLS {
+        numbers[c] = counter_numbers(counters[c]);
+    }
 }
 
-fn counters_from(numbers: CounterNumbers) -> Counters
-    ensures { result ≡ map counter_of_numbers numbers }
+// And of every worker's row.
+fn tell_rows(numbers: &mut AllCounterNumbers, counters: &AllCounters)
+    ensures { numbers.new ≡ map (λ row. map numbers_of_counter row) counters.now }
 {
-    numbers.map(Counter::from)
+    for w in 0..Flow::ROOM_FOR_WORKERS {
+        tell_row(&mut numbers[w], &counters[w]);
+    }
+}
+
+// The counters of a row of numbers.
+fn take_row(counters: &mut Counters, numbers: &CounterNumbers)
+    ensures { counters.new ≡ map counter_of_numbers numbers.now }
+{
+    for c in 0..Flow::ROOM_FOR_CELLS {
+        counters[c] = Counter::from(numbers[c]);
+    }
 }
 
 // What the numbers stand for.
 fn kept_from(shared: &CounterNumbers, private: &AllCounterNumbers, places: &PlaceNumbers) -> Kept
     ensures { result ≡ kept_of shared.now «private».now places.now }
 {
-    Kept {
-        shared: counters_from(*shared),
-        private: private.map(counters_from),
-        places: places.map(Place::from),
+    let mut kept = Kept::fresh();
+    take_row(&mut kept.shared, shared);
+    for w in 0..Flow::ROOM_FOR_WORKERS {
+        take_row(&mut kept.private[w], &private[w]);
+        kept.places[w] = Place::from(places[w]);
     }
+    kept
 }
 
 // One step of a named worker, as `machine::stepping::step` makes it. Of the places only the worker's changes, and only where it moves on.
@@ -103,8 +120,8 @@ pub fn step(
     };
     let mut kept = kept_from(shared, private, places);
     let answer = stepping::step(&all, w, cells, &mut kept);
-    *shared = counters_numbers(kept.shared);
-    *private = kept.private.map(counters_numbers);
+    tell_row(shared, &kept.shared);
+    tell_rows(private, &kept.private);
     places[w] = match answer {
         Ok(()) => place_numbers(kept.places[w]),
         Err(_) => places[w],

@@ -1,5 +1,5 @@
 -- `step` meets its contract: it is the step of what the numbers stand for, and the numbers are told back.
-use Rattle.std.proofs.Common.{rules, ◌≡◌, [], ℕ, List, map, length, Bool, Result, sym, ap, ◌∙◌}
+use Rattle.std.proofs.Common.{rules, ◌≡◌, ℕ, List, map, length, Bool, Result, sym, ap, ◌∙◌}
 use Rattle.layout.specs.Bytes.{IsBytes}
 use Rattle.arrays.specs.declared.Kept.{Kept}
 use Rattle.arrays.specs.Arrays.{lent, no_place, moves_on, places_after, goes_to}
@@ -7,8 +7,7 @@ use Rattle.arrays.specs.Numbers.{place_of_numbers}
 use Rattle.machine.specs.declared.Held.{Held}
 use Rattle.machine.specs.Outcomes.{outcome_of}
 use Rattle.machine.proofs.Steps.{stays}
-use Rattle.by_number.specs.Numbers.{numbers_of_counter, standing_for}
-use Rattle.by_number.proofs.Mapped.{mapped}
+use Rattle.by_number.specs.Numbers.{standing_for}
 use Rattle.by_number.proofs.Bytes.{ready_at}
 use Rattle.by_number.proofs.Steps.{step_told, told_after, moved_told, held_told}
 use Rattle.by_number.proofs.step.Goals as goal
@@ -49,7 +48,6 @@ pub returns-clause-done : goal.returns-clause-done
 returns-clause-done c =
     let a = c.args in
     let made = c.step-answer in
-    step_told _ _ _ a.w _ _ _ _ made.new.kept _ _ _ _ _ _ c.kept_from-kept.ensures c.counters_numbers.ensures
-    (mapped _ (λ row. map numbers_of_counter row) [] _ made.new.kept.private c.map.result 8 (search rules) c.map.ensures.items (λ p q x y call. search rules))
+    step_told _ _ _ a.w _ _ _ _ made.new.kept _ _ _ _ _ _ c.kept_from-kept.ensures c.tell_row.ensures c.tell_rows.ensures
     (ap (λ (numbers : List (List ℕ)). map place_of_numbers numbers) (returns-clause-places_after c) ∙ told_after _ a.places.now a.w _ ∙ sym (places_are c))
     made.ensures
