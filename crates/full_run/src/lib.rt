@@ -22,7 +22,7 @@ const MOST_STEPS: usize = 8 * 5800;
 pub struct FullRun {
     pub measured: Measured,
     pub ran: Ran,
-    room: [u32; Flow::ROOM_FOR_CELLS],
+    pub room: [u32; Flow::ROOM_FOR_CELLS],
     ghost finished: { ran.finished ≡ true },
 }
 
