@@ -3,3 +3,4 @@ pub mod Laid
 pub mod Order
 pub mod Outcomes
 pub mod Unique
+pub mod Zeros
